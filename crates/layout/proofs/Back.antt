@@ -1,0 +1,247 @@
+-- What is written reads back.
+use mathlib.Core.Bool.{Bool, cond, false, true}
+use mathlib.Core.List.{List, [], _++_, _∷_, append-assoc, append-nil}
+use mathlib.Core.Option.{none, some}
+use mathlib.Core.Path.{_∙_, _≡_, ap, refl, subst, sym}
+use Prim.Native.Nat.{_%_, _*_, _+_, _-_, _/_, _<_, _^_, _≤_, suc, zero, ℕ}
+use native.Mathlib.Nat.{add-mul, div-add-mod', mul-assoc, mul-comm, pow-suc, suc-ne-zero}
+use native.Mathlib.Omega.{arith}
+use lib.Dec.{T, eqb-refl, lit<, ltb, ltb→lt}
+use lib.ListN.{length, length-append}
+use lib.Seq.{drop-append-seam, take-append-seam}
+use Rattle.layout.specs.Reading.{Reader, give, here, many, ok, pair, pick, placed, primitive, raw, then}
+use Rattle.layout.specs.Utf8.{utf8}
+use Rattle.layout.specs.Primitives.{Maybe, Null, Size, Width, be, bits, bytes, cell, checked, compact, fixed, flag, flagBytes, groups, holds, int, integer, integerBytes, keeps, lengthBytes, lengthOf, limit, nullBytes, plain, shortest, signed, size, sized, sizedBytes, unsigned, unsignedBytes, w8}
+use Rattle.layout.specs.Rows.{Basic, BasicValue, Shape, Value, absent, array, blob, boolean, end, field, lacking, level, natural, number, optional, text}
+use Rattle.layout.specs.Read.{byBytes, read, readBasic, readBlob, readText}
+use Rattle.layout.specs.Write.{basicFault, each, fault, firstOf, or, sizedFault, unless, write, writeBasic}
+use Rattle.layout.proofs.Tests.{is-true, lt-false, lt-true, of-le, of-lt, one-more}
+use Rattle.layout.proofs.Cells.{extend, extend-bytes, pattern, powers}
+use Rattle.layout.proofs.Local.{raw-ok}
+
+-- r reads w as x, whatever follows
+pub record Back {A : Type 0} (r : Reader A) (w : List ℕ) (x : A) : Type 0 where
+  pub law : (p : ℕ) (t : List ℕ) → r p (w ++ t) ≡ ok x (length w)
+
+pub back-give : {A : Type 0} (x : A) → Back (give x) [] x
+unfolding give
+back-give x = record { law = λ p t. refl }
+
+pub back-then : {A B : Type 0} (r : Reader A) (f : A → Reader B) (v w : List ℕ) (x : A) (y : B) → Back r v x → Back (f x) w y → Back (then r f) (v ++ w) y
+unfolding then
+back-then {A} {B} r f v w x y a b = record {
+  law = λ p t.
+      rw append-assoc (rw (a .law p (w ++ t)) (rw (drop-append-seam v (w ++ t)) (rw (b .law (p + length v) t) (rw length-append refl))));
+}
+
+-- the same, where the second reader only gives
+pub back-map : {A B : Type 0} (r : Reader A) (f : A → B) (w : List ℕ) (x : A) → Back r w x → Back (then r (λ z. give (f z))) w (f x)
+back-map {A} {B} r f w x a = subst (λ (u : List ℕ). Back (then r (λ z. give (f z))) u (f x)) (append-nil w) (back-then r _ w [] x (f x) a (back-give (f x)))
+
+pub back-here : {A : Type 0} (r : ℕ → Reader A) (w : List ℕ) (x : A) → ((p : ℕ) → Back (r p) w x) → Back (here r) w x
+unfolding here
+back-here r w x h = record { law = λ p t. h p .law p t }
+
+pub back-primitive : {A : Type 0} (r : Reader A) (w : List ℕ) (x : A) → Back r w x → Back (primitive r) w x
+unfolding primitive
+back-primitive r w x a = record { law = λ p t. ap (placed p) (a .law p t) }
+
+pub back-raw : (w : List ℕ) → Back (raw (length w)) w w
+back-raw w = record {
+  law = λ p t.
+      let h : length w ≤ length (w ++ t) = rw length-append (omega arith) in
+      raw-ok (length w) p (w ++ t) h ∙ ap (λ (u : List ℕ). ok u (length w)) (take-append-seam w t);
+}
+
+pub back-true : {A : Type 0} (b : Bool) (r q : Reader A) (w : List ℕ) (x : A) → b ≡ true → Back r w x → Back (pick b r q) w x
+unfolding pick
+back-true b r q w x e h = rw e h
+
+pub back-false : {A : Type 0} (b : Bool) (r q : Reader A) (w : List ℕ) (x : A) → b ≡ false → Back q w x → Back (pick b r q) w x
+unfolding pick
+back-false b r q w x e h = rw e h
+
+pub length-bytes : (k n : ℕ) → length (bytes k n) ≡ k
+unfolding bytes
+length-bytes zero n = refl
+length-bytes (suc k) n = rw length-append (omega (arith, length-bytes k (n / 256)))
+
+pub be-snoc : (a : ℕ) (s : List ℕ) (b : ℕ) → be a (s ++ (b ∷ [])) ≡ be a s * 256 + b
+be-snoc a [] b = refl
+be-snoc a (c ∷ s) b = be-snoc (a * 256 + c) s b
+
+pub be-bytes : (k n : ℕ) → n < 256 ^ k → be 0 (bytes k n) ≡ n
+unfolding bytes
+be-bytes zero n h = omega arith
+be-bytes (suc k) n h =
+    let i : n / 256 < 256 ^ k = omega (arith, pow-suc 256 k) in
+    rw (be-snoc 0 (bytes k (n / 256)) (n % 256), be-bytes k (n / 256) i) (div-add-mod' n 256)
+
+pub back-int : (k n : ℕ) → n < 256 ^ k → Back (int k) (bytes k n) n
+unfolding int
+back-int k n h =
+    let e : length (bytes k n) ≡ k = length-bytes k n in
+    let b : Back (raw k) (bytes k n) (bytes k n) = rw e at (back-raw (bytes k n)) in
+    rw (be-bytes k n h) at (back-map (raw k) (be 0) (bytes k n) (bytes k n) b)
+
+pub back-is : {A : Type 0} (r : Reader A) (w : List ℕ) (x y : A) → x ≡ y → Back r w x → Back r w y
+back-is r w x y e h = subst (λ z. Back r w z) e h
+
+pub back-last : {A B : Type 0} (r : Reader A) (f : A → Reader B) (w : List ℕ) (x : A) (y : B) → Back r w x → Back (f x) [] y → Back (then r f) w y
+back-last {A} {B} r f w x y a b = subst (λ (u : List ℕ). Back (then r f) u y) (append-nil w) (back-then r f w [] x y a b)
+
+-- so 12 has no case: a seven-bit group with its continuation bit fits a byte
+pub group-fits : (n : ℕ) → 128 + n % 128 < 256
+group-fits n = omega arith
+
+digits : (a n m : ℕ) → (a + (128 + n % 128) % 128 * m) + n / 128 * (m * 128) ≡ a + n * m
+digits a n m =
+    let e : (128 + n % 128) % 128 ≡ n % 128 = omega arith in
+    let f : n * m ≡ n / 128 * (m * 128) + n % 128 * m =
+    ap (λ (x : ℕ). x * m) (sym (div-add-mod' n 128)) ∙ add-mul (n / 128 * 128) (n % 128) m
+    ∙ ap (λ (x : ℕ). x + n % 128 * m) (mul-assoc (n / 128) 128 m ∙ ap (λ (x : ℕ). n / 128 * x) (mul-comm 128 m)) in
+    rw e (omega (arith, f))
+
+back-shortest : (k m a n : ℕ) → n < 2 * 128 ^ k → Back (groups k m a) (shortest k n) (a + n * m)
+unfolding groups shortest
+back-shortest zero m a n h =
+    let e : n % 2 ≡ n = omega arith in
+    let f : a + n % 2 * m ≡ a + n * m = rw e in
+    back-is _ _ _ _ f (back-last (int 1) _ (bytes 1 n) n _ (back-int 1 n (omega arith))
+    (back-true _ _ _ _ _ (lt-true n 128 (omega arith)) (back-give (a + n % 2 * m))))
+back-shortest (suc k) m a n h = go (λ i. back-shortest k (m * 128) _ (n / 128) i) (ltb n 128) refl
+  where
+    go : (n / 128 < 2 * 128 ^ k → Back (groups k (m * 128) (a + (128 + n % 128) % 128 * m)) (shortest k (n / 128)) ((a + (128 + n % 128) % 128 * m) + n / 128 * (m * 128))) →
+        (b : Bool) → ltb n 128 ≡ b → Back (groups (suc k) m a) (cond b (bytes 1 n) (bytes 1 (128 + n % 128) ++ shortest k (n / 128))) (a + n * m)
+    go rec true e =
+        let i : n < 128 = ltb→lt n 128 (subst T (sym e) tt) in
+        back-last (int 1) _ (bytes 1 n) n (a + n * m) (back-int 1 n (omega arith))
+        (back-true _ _ _ _ _ e (back-give (a + n * m)))
+    go rec false e =
+        let c = 128 + n % 128 in
+        let i : n / 128 < 2 * 128 ^ k = omega (arith, pow-suc 128 k) in
+        back-is _ _ _ _ (digits a n m) (back-then (int 1) _ (bytes 1 c) (shortest k (n / 128)) c _ (back-int 1 c (omega arith))
+        (back-false _ _ _ _ _ (lt-false c 128 (omega arith)) (rec i)))
+
+pub back-unsigned : (n : ℕ) → n < 2 ^ 64 → Back unsigned (unsignedBytes n) n
+unfolding unsigned unsignedBytes
+back-unsigned n h =
+    let e : 0 + n * 1 ≡ n = omega arith in
+    back-primitive _ _ _ (rw e at (back-shortest 9 1 0 n h))
+
+pub back-pair : {A B : Type 0} (r : Reader A) (q : Reader B) (v w : List ℕ) (z : A × B) → Back r v (z .0) → Back q w (z .1) → Back (pair r q) (v ++ w) z
+unfolding pair
+back-pair r q v w z a b = back-then r _ v w (z .0) z a (back-map q _ w (z .1) b)
+
+back-less : {A : Type 0} (r : ℕ → Reader A) (n : ℕ) (w : List ℕ) (x : A) → Back (r n) w x → Back (r (n + 1 - 1)) w x
+back-less r n w x h = let e : n ≡ n + 1 - 1 = omega arith in subst (λ (m : ℕ). Back (r m) w x) e h
+
+-- a signed number, as a length
+back-fixed : (w : Width) (m : Null) (n : ℕ) → n < 2 ^ (bits w - 1) → Back (lengthOf unsigned (fixed w m)) (bytes (size w) n) (n + 1)
+unfolding lengthOf
+back-fixed w m n h = back-last _ _ _ n _ (back-int (size w) n (let p = powers w in omega (arith, p .half, p .power))) (back-true _ _ _ _ _ (lt-true _ _ h) (back-give (n + 1)))
+
+back-length : (z : Size) (n : ℕ) → n < limit z → Back (lengthOf unsigned z) (lengthBytes z n) (n + 1)
+unfolding lengthBytes
+back-length (fixed w m) n h = back-fixed w m n h
+back-length (compact m) n h = unfold lengthOf in back-unsigned (n + 1) (omega arith)
+back-length plain n h = unfold lengthOf in back-map unsigned (λ n. n + 1) _ n (back-unsigned n h)
+
+-- null
+back-null : (z : Size) → keeps z ≡ true → Back (lengthOf unsigned z) (nullBytes z) 0
+unfolding lengthOf nullBytes
+back-null (fixed w m) k =
+    let p = powers w in
+    back-last _ _ _ (2 ^ bits w - 1) _ (back-int (size w) _ (omega (arith, p .least, p .half, p .power)))
+    (back-false _ _ _ _ _ (lt-false (2 ^ bits w - 1) (2 ^ (bits w - 1)) (omega (arith, p .least, p .half))) (back-true _ _ _ _ _ (is-true _ (eqb-refl (2 ^ bits w - 1))) (back-give 0)))
+back-null (compact m) k = back-unsigned 0 (lit< tt)
+back-null plain k = let z : _≡_ {A = ℕ} 0 1 = cc in absurd (omega arith)
+
+pub back-cell : (w : Width) (c : ℕ) → holds w c ≡ true → Back (cell w) (bytes (size w) c) c
+unfolding cell
+back-cell w c h =
+    let p = pattern w c h in
+    subst (λ (u : List ℕ). Back (then (int (size w)) (λ n. give (extend w n))) u c) (sym (p .same))
+    (back-is _ _ _ _ (p .is) (back-map (int (size w)) (extend w) _ (p .n) (back-int (size w) (p .n) (p .small))))
+
+-- every number of the width, written and read
+pub back-integer : (w : Width) (n : ℕ) → n < 2 ^ bits w → Back (integer w) (integerBytes w (signed w n)) (signed w n)
+unfolding integer integerBytes
+back-integer w n h = subst (λ (u : List ℕ). Back (then (int (size w)) (λ n. give (signed w n))) u (signed w n)) (sym (extend-bytes w n h)) (back-map (int (size w)) (signed w) _ n (back-int (size w) n (let p = powers w in omega (arith, p .power))))
+
+back-level : (c : ℕ) → c ≤ 1 → holds w8 c ≡ true
+unfolding holds
+back-level c h = rw (lt-true c 128 (omega arith))
+
+-- ---- faults: none in two is none in each
+
+pub or-none : (a b : ℕ) → or a b ≡ 0 → (a ≡ 0) × (b ≡ 0)
+unfolding or
+or-none zero b h = (refl, h)
+or-none (suc a) b h = absurd (suc-ne-zero a h)
+
+pub unless-none : (b : Bool) (e : ℕ) → unless b (suc e) ≡ 0 → b ≡ true
+unfolding unless
+unless-none true e h = refl
+unless-none false e h = absurd (suc-ne-zero e h)
+
+pub small-none : (a b e : ℕ) → unless (ltb a b) (suc e) ≡ 0 → a < b
+small-none a b e h = of-lt a b (unless-none _ e h)
+
+pub back-many : {A : Type 0} (r : Reader A) (w : A → List ℕ) (g : A → ℕ) → ((x : A) → g x ≡ 0 → Back r (w x) x) → (xs : List A) → firstOf g xs ≡ 0 → Back (many (length xs) r) (each w xs) xs
+unfolding many each firstOf
+back-many r w g h [] a = back-give []
+back-many r w g h (x ∷ xs) a =
+    let o = or-none (g x) (firstOf g xs) a in
+    back-then r _ (w x) (each w xs) x _ (h x (o .0)) (back-map _ _ (each w xs) xs (back-many r w g h xs (o .1)))
+
+back-some : (a : Bool) (e : ℕ) (z : Size) (n : ℕ) → n < limit z → Back (checked a e (lengthOf unsigned z)) (lengthBytes z n) (n + 1)
+unfolding checked
+back-some a e z n h = back-primitive _ _ _ (back-last _ _ _ (n + 1) _ (back-length z n h) (back-false _ _ _ _ _ (one-more n) (back-give (n + 1))))
+
+-- r of length n reads what w writes of a list of length n without fault: so does the list with its length in front
+back-sized : {A : Type 0} (b a : Bool) (e : ℕ) (z : Size) (r : ℕ → Reader (List A)) (w : List A → List ℕ) (g : List A → ℕ) → keeps z ≡ b →
+    ((xs : List A) → g xs ≡ 0 → Back (r (length xs)) (w xs) xs) →
+    (x : Maybe b (List A)) → sizedFault b z g x ≡ 0 → Back (sized b a e (lengthOf unsigned z) r) (sizedBytes b z w x) x
+unfolding sized sizedBytes sizedFault
+back-sized true a e z r w g k h none o =
+    back-last _ _ _ zero _ (unfold checked in (back-primitive _ _ _ (back-last _ _ _ zero _ (back-null z k) (back-true _ _ _ _ _ refl (back-true _ _ _ _ _ refl (back-give zero))))))
+    (back-true _ _ _ _ _ refl (back-give none))
+back-sized true a e z r w g k h (some xs) o =
+    let f = or-none _ _ o in
+    back-then _ _ _ _ (length xs + 1) _ (back-some true e z (length xs) (small-none _ _ 10 (f .0)))
+    (back-false _ _ _ _ _ (one-more (length xs)) (back-map _ _ _ _ (back-less r _ _ _ (h xs (f .1)))))
+back-sized false a e z r w g k h xs o =
+    let f = or-none _ _ o in
+    back-then _ _ _ _ (length xs + 1) _ (back-some a e z (length xs) (small-none _ _ 10 (f .0))) (back-less r _ _ _ (h xs (f .1)))
+
+module _ (q : Bool) where
+  back-text : (b : List ℕ) → unless (utf8 b) 7 ≡ 0 → Back (readText (byBytes q) (length b)) b b
+  unfolding readText
+  back-text b h = back-here _ _ _ (λ p. back-last _ _ b b b (back-raw b) (back-true _ _ _ _ _ (unless-none _ 6 h) (back-give b)))
+
+  back-blob : (b : List ℕ) → Back (readBlob (byBytes q) (length b)) b b
+  unfolding readBlob
+  back-blob b = back-here _ _ _ (λ p. back-map _ _ b b (back-raw b))
+
+  back-basic : (k : Basic) (x : BasicValue (List ℕ) k) → basicFault k x ≡ 0 → Back (readBasic (byBytes q) k) (writeBasic k x) x
+  unfolding readBasic writeBasic basicFault flag flagBytes
+  back-basic (number w) x h = back-cell w x (unless-none _ 10 h)
+  back-basic boolean true h = back-map (int 1) (λ n. ltb 0 n) (bytes 1 1) 1 (back-int 1 1 (lit< tt))
+  back-basic boolean false h = back-map (int 1) (λ n. ltb 0 n) (bytes 1 0) 0 (back-int 1 0 (lit< tt))
+  back-basic level x h = back-cell w8 x (back-level x (of-le x 1 (unless-none _ 10 h)))
+  back-basic natural x h = back-unsigned x (small-none _ _ 10 h)
+  back-basic (text z) x h = back-primitive _ _ _ (back-sized (keeps z) _ _ z _ _ _ refl back-text x h)
+  back-basic (blob z) x h = back-primitive _ _ _ (back-sized (keeps z) _ _ z _ _ (λ y. 0) refl (λ y u. back-blob y) x h)
+  back-basic (optional d k) x h = back-basic k x h
+
+  -- the theorem, for every shape: what is written without fault reads back, in a whole read too
+  pub back-read : (l : Shape) (x : Value (List ℕ) l) → fault l x ≡ 0 → Back (read (byBytes q) l) (write l x) x
+  unfolding read write fault
+  back-read end x h = back-give tt
+  back-read (field k r) x h = let o = or-none _ _ h in back-pair _ _ _ _ _ (back-basic k (x .0) (o .0)) (back-read r (x .1) (o .1))
+  back-read (absent k r) x h = back-read r x h
+  back-read (array z t i r) x h =
+      let o = or-none _ _ h in
+      back-pair _ _ _ _ _ (back-sized (keeps z) _ _ z _ _ _ refl (back-many (read (byBytes q) i) (write i) (fault i) (back-read i)) (x .0) (o .0)) (back-read r (x .1) (o .1))
+  back-read (lacking z t i r) x h = back-read r x h

@@ -1,0 +1,289 @@
+-- The laws at the level of calls, for every message: what is refused before the bytes are looked at, that nothing behind the used bytes has a part,
+-- what tables and output hold after a refusal, and that what a write accepts a whole read accepts, with tables that mean the same.
+use mathlib.Core.Bool.{Bool, false, true, cond}
+use mathlib.Core.List.{List, [], _++_}
+use mathlib.Core.Option.{Option, none, some}
+use mathlib.Core.Path.{_∙_, _≡_, ap, refl, subst, sym}
+use Prim.Native.Nat.{_+_, _/_, _<_, _≤_, suc, zero, ℕ}
+use native.Mathlib.Omega.{arith}
+use lib.Dec.{leb, ltb}
+use lib.IntN.{ℤ, negsuc, pos}
+use lib.ListN.{drop, getD, length, replicate, take}
+use lib.Seq.{take-at}
+use borrow.Author.Tests.{ne-eqb}
+use Rattle.layout.specs.Reading.{Reader, Refusal, Res, bad, because, ok}
+use Rattle.layout.specs.Primitives.{minus}
+use Rattle.layout.specs.Rows.{Shape}
+use Rattle.layout.specs.Write.{fault}
+use Rattle.layout.specs.Tables.{Tables, append, good, readRows}
+use Rattle.layout.specs.Answers.{Answer, Message, accepted, body, ended, faultless, judged, laid, made, meant, most, needed, prefixRead, readAnswer, refused, roomy, seen, shape, stored, widths, writeAnswer}
+use Rattle.layout.proofs.Contents.{Holds, rows-needed, rows-wide, rowsIn, tables-hold}
+use Rattle.layout.proofs.Every.{Every}
+use Rattle.layout.proofs.Link.{link}
+use Rattle.layout.proofs.Local.{Local, Same, local-flag, local-read, local-unsigned, not-ok}
+use Rattle.layout.proofs.Maps.{Maps, over}
+use Rattle.layout.proofs.Parts.{shown}
+use Rattle.layout.proofs.Proper.{owed, proper, width-same, widthAt}
+use Rattle.layout.proofs.Tests.{le-false, le-true, lt-false, of-ge, of-le}
+use Rattle.layout.proofs.Trip.{Laid, round-trip}
+
+-- no refusal is an acceptance
+pub not-accepted : {B X : Type 0} {e : Refusal} {r : List ℕ} {n : ℕ} {a b : B} → _≡_ {A = Answer × B} (refused e, a) (accepted r n, b) → X
+not-accepted {B} {X} {e} {r} {n} {a} {b} h = let x : refused e ≡ accepted r n = ap (λ (z : Answer × B). z .0) h in absurd (let z : _≡_ {A = ℕ} 0 1 = cc in omega arith)
+
+-- ---- 1 and 2 come first, and look at nothing else
+
+pub version-below : (w : Bool) (m : Message) (v : ℕ) (s : List ℕ) → seen w m (negsuc v) s ≡ bad (because 1 0)
+unfolding seen
+version-below w m v s = refl
+
+pub version-above : (w : Bool) (m : Message) (v : ℕ) (s : List ℕ) → m .last < v → seen w m (pos v) s ≡ bad (because 1 0)
+unfolding seen
+version-above w m v s h = rw (le-false v (m .last) h)
+
+pub too-long : (w : Bool) (m : Message) (v : ℕ) (s : List ℕ) → v ≤ m .last → 1048576 < length s → seen w m (pos v) s ≡ bad (because 2 0)
+unfolding seen
+too-long w m v s h g = rw (le-true v (m .last) h, le-false (length s) 1048576 g)
+
+-- ---- what an accepted message is
+
+pub record Seen (w : Bool) (m : Message) (v : ℤ) (s : List ℕ) (st : Tables) (n : ℕ) : Type 0 where
+  pub version : ℕ
+  pub is : v ≡ pos version
+  pub known : version ≤ m .last
+  pub short : length s ≤ most
+  pub reads : readRows w append (shape m version) 0 (replicate (suc (m .tables)) []) 0 s ≡ ok st n
+  pub to-the-end : w ≡ true → length s ≤ n
+
+pub seen-inv : (w : Bool) (m : Message) (v : ℤ) (s : List ℕ) (st : Tables) (n : ℕ) → seen w m v s ≡ ok st n → Seen w m v s st n
+unfolding seen
+seen-inv w m (negsuc v) s st n e = not-ok e
+seen-inv w m (pos v) s st n e = go _ _ (leb v (m .last)) refl (leb (length s) most) refl (readRows w append (shape m v) 0 (replicate (suc (m .tables)) []) 0 s) refl w refl e
+  where
+    found : v ≤ m .last → length s ≤ most → (k : ℕ) → readRows w append (shape m v) 0 (replicate (suc (m .tables)) []) 0 s ≡ ok st n → (w ≡ true → length s ≤ n) → Seen w m (pos v) s st n
+    found h g k d u = record { version = v; is = refl; known = h; short = g; reads = d; to-the-end = u }
+
+    whole : v ≤ m .last → length s ≤ most → (su : Tables) (k : ℕ) (c : Refusal) → readRows w append (shape m v) 0 (replicate (suc (m .tables)) []) 0 s ≡ ok su k → (t : Bool) → ltb k (length s) ≡ t → cond t (bad c) (ok su k) ≡ ok st n → Seen w m (pos v) s st n
+    whole h g su k c d true i e = not-ok e
+    whole h g su k c d false i e = let x : k ≡ n = cc in found h g k (d ∙ e) (λ u. subst (λ (j : ℕ). length s ≤ j) x (of-ge k (length s) i))
+
+    go : (first second : Refusal) (a : Bool) → leb v (m .last) ≡ a → (b : Bool) → leb (length s) most ≡ b → (o : Res Tables) → readRows w append (shape m v) 0 (replicate (suc (m .tables)) []) 0 s ≡ o → (q : Bool) → w ≡ q →
+        cond a (cond b (ended q (length s) o) (bad second)) (bad first) ≡ ok st n → Seen w m (pos v) s st n
+    go e₁ e₂ true h true g (ok su k) d true i e = whole (of-le _ _ h) (of-le _ _ g) su k _ d (ltb k (length s)) refl e
+    go e₁ e₂ true h true g (ok su k) d false i e = found (of-le _ _ h) (of-le _ _ g) k (d ∙ e) (λ u. absurd (let z : _≡_ {A = ℕ} 0 1 = cc in omega arith))
+    go e₁ e₂ true h true g (bad c) d true i e = not-ok e
+    go e₁ e₂ true h true g (bad c) d false i e = not-ok e
+    go e₁ e₂ true h false g o d q i e = not-ok e
+    go e₁ e₂ false h b g o d q i e = not-ok e
+
+-- and back: a body that is read is seen
+pub seen-prefix : (m : Message) (v : ℕ) (s : List ℕ) (st : Tables) (n : ℕ) → v ≤ m .last → length s ≤ most → readRows false append (shape m v) 0 (replicate (suc (m .tables)) []) 0 s ≡ ok st n → seen false m (pos v) s ≡ ok st n
+unfolding seen
+seen-prefix m v s st n a b d = rw (le-true v (m .last) a, le-true (length s) most b, d)
+
+pub seen-whole : (m : Message) (v : ℕ) (s : List ℕ) (st : Tables) → v ≤ m .last → length s ≤ most → readRows true append (shape m v) 0 (replicate (suc (m .tables)) []) 0 s ≡ ok st (length s) → seen true m (pos v) s ≡ ok st (length s)
+unfolding seen
+seen-whole m v s st a b d = rw (le-true v (m .last) a, le-true (length s) most b, d, lt-false (length s) (length s) (omega arith))
+
+-- ---- the answer rests on the bytes used
+
+maps-local : {A S : Type 0} (rs : Reader S) (r : Reader A) (g : A → S) → Maps rs r g → Local r → Local rs
+maps-local {A} {S} rs r g m l = record { law = λ p s y n e. go p s y n (r p s) refl (sym (m .law p s) ∙ e) }
+  where
+    go : (p : ℕ) (s : List ℕ) (y : S) (n : ℕ) (o : Res A) → r p s ≡ o → over g o ≡ ok y n → Same rs p s y n
+    go p s y n (ok x k) d e =
+        let z : g x ≡ y = cc in
+        let w : k ≡ n = cc in
+        let h = l .law p s x n (d ∙ ap (λ (j : ℕ). ok x j) w) in
+        record { fits = h .fits; same = λ t. m .law p (take n s ++ t) ∙ ap (over g) (h .same t) ∙ ap (λ (u : S). ok u n) z }
+    go p s y n (bad w) d e = not-ok e
+
+pub local-rows : {S : Type 0} (w : Bool) (add : ℕ → List ℕ → S → S) (l : Shape) (o : ℕ) (st : S) → Local (readRows w add l o st)
+local-rows w add l o st = maps-local _ _ _ (link w add l o st) (local-read _ local-unsigned local-flag l)
+
+module _ (m : Message) (v : ℤ) (s : List ℕ) where
+  -- no more bytes are used than there are
+  pub seen-fits : (w : Bool) (st : Tables) (n : ℕ) → seen w m v s ≡ ok st n → n ≤ length s
+  seen-fits w st n e = let d = seen-inv w m v s st n e in local-rows w append (shape m (d .version)) 0 _ .law 0 s st n (d .reads) .fits
+
+  -- any bytes may stand behind those used
+  pub seen-local : (st : Tables) (n : ℕ) (t : List ℕ) → seen false m v s ≡ ok st n → length (take n s ++ t) ≤ most → seen false m v (take n s ++ t) ≡ ok st n
+  seen-local st n t e h = go (seen-inv false m v s st n e)
+    where
+      go : Seen false m v s st n → seen false m v (take n s ++ t) ≡ ok st n
+      go d = ap (λ (z : ℤ). seen false m z (take n s ++ t)) (d .is) ∙ seen-prefix m (d .version) (take n s ++ t) st n (d .known) h (local-rows false append (shape m (d .version)) 0 _ .law 0 s st n (d .reads) .same t)
+
+  module _ (room : Tables) where
+    -- an accepted answer is a message seen, and room for it
+    pub record Read (w : Bool) (r : List ℕ) (n : ℕ) (after : Tables) : Type 0 where
+      pub st : Tables
+      pub is-seen : seen w m v s ≡ ok st n
+      pub has-room : needed (widths m) (drop 1 st) room ≡ none
+      pub row-is : getD st 0 [] ≡ r
+      pub after-is : laid (drop 1 st) room ≡ after
+
+    pub read-inv : (w : Bool) (r : List ℕ) (n : ℕ) (after : Tables) → readAnswer w m v room s ≡ (accepted r n, after) → Read w r n after
+    unfolding readAnswer
+    read-inv w r n after e = go (seen w m v s) refl e
+      where
+        fits : (st : Tables) (k : ℕ) → seen w m v s ≡ ok st k → (o : Option ℕ) → needed (widths m) (drop 1 st) room ≡ o → roomy st room k o ≡ (accepted r n, after) → Read w r n after
+        fits st k d none h e =
+            let x : accepted (getD st 0 []) k ≡ accepted r n = ap (λ (z : Answer × Tables). z .0) e in
+            let y : k ≡ n = cc in
+            record { st = st; is-seen = d ∙ ap (λ (j : ℕ). ok st j) y; has-room = h; row-is = cc; after-is = ap (λ (z : Answer × Tables). z .1) e }
+        fits st k d (some j) h e = not-accepted e
+
+        go : (o : Res Tables) → seen w m v s ≡ o → judged m room o ≡ (accepted r n, after) → Read w r n after
+        go (ok st k) d e = fits st k d (needed (widths m) (drop 1 st) room) refl e
+        go (bad c) d e = not-accepted e
+
+    pub read-answer : (w : Bool) (st : Tables) (n : ℕ) → seen w m v s ≡ ok st n → needed (widths m) (drop 1 st) room ≡ none → readAnswer w m v room s ≡ (accepted (getD st 0 []) n, laid (drop 1 st) room)
+    unfolding readAnswer
+    read-answer w st n d h = rw (d, h)
+
+    -- what is refused is refused whatever is lent, and nothing is altered
+    pub read-refused : (w : Bool) (e : Refusal) → seen w m v s ≡ bad e → readAnswer w m v room s ≡ (refused e, room)
+    unfolding readAnswer
+    read-refused w e d = rw d
+
+    -- after any refusal, of room too, the tables are as they were
+    pub refusal-keeps : (w : Bool) (e : Refusal) (after : Tables) → readAnswer w m v room s ≡ (refused e, after) → after ≡ room
+    unfolding readAnswer
+    refusal-keeps w e after d = go (seen w m v s) d
+      where
+        fits : (st : Tables) (k : ℕ) (o : Option ℕ) → roomy st room k o ≡ (refused e, after) → after ≡ room
+        fits st k none d = not-accepted (sym d)
+        fits st k (some j) d = sym (ap (λ (z : Answer × Tables). z .1) d)
+
+        go : (o : Res Tables) → judged m room o ≡ (refused e, after) → after ≡ room
+        go (ok st k) d = fits st k (needed (widths m) (drop 1 st) room) d
+        go (bad c) d = sym (ap (λ (z : Answer × Tables). z .1) d)
+
+-- the law of the prefix read: nothing behind the used bytes has a part in its answer
+pub prefix-local : (m : Message) (v : ℤ) (room : Tables) (s t r : List ℕ) (n : ℕ) (after : Tables) →
+    prefixRead m v room s ≡ (accepted r n, after) → length (take n s ++ t) ≤ most → prefixRead m v room (take n s ++ t) ≡ (accepted r n, after)
+unfolding prefixRead
+prefix-local m v room s t r n after e h = go (read-inv m v s room false r n after e)
+  where
+    go : Read m v s room false r n after → readAnswer false m v room (take n s ++ t) ≡ (accepted r n, after)
+    go d = read-answer m v (take n s ++ t) room false (d .st) n (seen-local m v s (d .st) n t (d .is-seen) h) (d .has-room) ∙ (λ i. (accepted (d .row-is i) n, d .after-is i))
+
+-- ---- what the tables hold
+
+module _ (m : Message) (h : proper m ≡ true) where
+  pub tables-are : (w : Bool) (v : ℤ) (s : List ℕ) (st : Tables) (n : ℕ) → (d : Seen w m v s st n) → Holds w (shape m (d .version)) s n st
+  tables-are w v s st n d =
+      let o = owed m h (d .version) (d .known) in
+      tables-hold w (shape m (d .version)) (suc (m .tables)) s st n (omega arith) (o .names) (o .free) (o .tree) (d .reads)
+
+  -- every text and every data that is shown lies inside the message
+  pub parts-inside : (w : Bool) (v : ℤ) (s : List ℕ) (st : Tables) (n : ℕ) → (d : Seen w m v s st n) → Every minus (λ t. t .0 + t .1 ≤ length s) (shape m (d .version)) (tables-are w v s st n d .x)
+  parts-inside w v s st n d = shown minus w (shape m (d .version)) s _ n (let k = d .short in omega arith) (owed m h (d .version) (d .known) .eating) (tables-are w v s st n d .reads) .inside-it
+
+  -- the rows of table t in what was read: the need that 10 tells
+  pub need-is : (w : Bool) (v : ℕ) (s : List ℕ) (st : Tables) (n t : ℕ) → (e : Holds w (shape m v) s n st) → v ≤ m .last → 1 ≤ t → t ≤ m .tables → length (getD st t []) / widthAt m 0 t ≡ length (rowsIn t (shape m v) (e .x))
+  unfolding widthAt
+  need-is w v s st n t e k a b =
+      let c = width-same m h v k t a b in
+      ap (λ (u : ℕ). length (getD st t []) / u) (sym (c .1)) ∙ ap (λ (u : List ℕ). length u / widthAt m v t) (e .others t (ne-eqb t 0 (λ z. omega arith)))
+      ∙ rows-needed (widthAt m v t) (rowsIn t (shape m v) (e .x)) (c .0) (rows-wide (λ t. widthAt m v t) t (shape m v) (e .x) (owed m h v k .wide))
+
+-- ---- writing
+
+-- what an accepted write says
+pub record Made (m : Message) (v : ℤ) (lent : List ℕ) (st : Tables) (bs : List ℕ) (n : ℕ) : Type 0 where
+  pub version : ℕ
+  pub is : v ≡ pos version
+  pub known : version ≤ m .last
+  pub good-tables : good (length lent) (m .tables) (shape m 0) st ≡ true
+  pub clean : fault (shape m version) (meant lent st (shape m version)) ≡ 0
+  pub bytes-are : bs ≡ body lent st (shape m version)
+  pub size-is : n ≡ length bs
+  pub short : length bs ≤ most
+
+pub made-inv : (m : Message) (v : ℤ) (lent : List ℕ) (st : Tables) (bs : List ℕ) (n : ℕ) → made m v lent st ≡ ok bs n → Made m v lent st bs n
+unfolding made
+made-inv m (negsuc v) lent st bs n e = not-ok e
+made-inv m (pos v) lent st bs n e =
+    go _ _ _ (leb v (m .last)) refl (good (length lent) (m .tables) (shape m 0) st) refl (fault (shape m v) (meant lent st (shape m v))) refl (leb (length (body lent st (shape m v))) most) refl e
+  where
+    b : List ℕ
+    b = body lent st (shape m v)
+
+    go : (first second third : Refusal) (x : Bool) → leb v (m .last) ≡ x → (g : Bool) → good (length lent) (m .tables) (shape m 0) st ≡ g → (f : ℕ) → fault (shape m v) (meant lent st (shape m v)) ≡ f → (y : Bool) → leb (length b) most ≡ y →
+        cond x (cond g (faultless f (cond y (ok b (length b)) (bad third))) (bad second)) (bad first) ≡ ok bs n → Made m (pos v) lent st bs n
+    go e₁ e₂ e₃ true h true g zero f true y e =
+        let z : b ≡ bs = cc in
+        let w : length b ≡ n = cc in
+        record { version = v; is = refl; known = of-le _ _ h; good-tables = g; clean = f; bytes-are = sym z; size-is = sym w ∙ ap length z; short = subst (λ (u : List ℕ). length u ≤ most) z (of-le _ _ y) }
+    go e₁ e₂ e₃ true h true g zero f false y e = not-ok e
+    go e₁ e₂ e₃ true h true g (suc c) f y′ y e = not-ok e
+    go e₁ e₂ e₃ true h false g f c y′ y e = not-ok e
+    go e₁ e₂ e₃ false h g′ g f c y′ y e = not-ok e
+
+pub record Wrote (m : Message) (v : ℤ) (lent : List ℕ) (st : Tables) (out : List ℕ) (n : ℕ) (after : List ℕ) : Type 0 where
+  pub bs : List ℕ
+  pub is-made : made m v lent st ≡ ok bs n
+  pub after-is : after ≡ bs ++ drop n out
+  pub fits : n ≤ length out
+
+pub write-inv : (m : Message) (v : ℤ) (lent : List ℕ) (st : Tables) (out r : List ℕ) (n : ℕ) (after : List ℕ) → writeAnswer m v lent st out ≡ (accepted r n, after) → Wrote m v lent st out n after
+unfolding writeAnswer
+write-inv m v lent st out r n after e = go (made m v lent st) refl e
+  where
+    fits : (bs : List ℕ) (k : ℕ) (c : Refusal) → made m v lent st ≡ ok bs k → (b : Bool) → leb k (length out) ≡ b →
+        _≡_ {A = Answer × List ℕ} (cond b (accepted [] k, bs ++ drop k out) (refused c, out)) (accepted r n, after) → Wrote m v lent st out n after
+    fits bs k c d true h e =
+        let x : accepted [] k ≡ accepted r n = ap (λ (z : Answer × List ℕ). z .0) e in
+        let y : k ≡ n = cc in
+        record { bs = bs; is-made = d ∙ ap (λ (j : ℕ). ok bs j) y; after-is = sym (ap (λ (z : Answer × List ℕ). z .1) e) ∙ ap (λ (j : ℕ). bs ++ drop j out) y; fits = subst (λ (j : ℕ). j ≤ length out) y (of-le _ _ h) }
+    fits bs k c d false h e = not-accepted e
+
+    go : (o : Res (List ℕ)) → made m v lent st ≡ o → stored out o ≡ (accepted r n, after) → Wrote m v lent st out n after
+    go (ok bs k) d e = fits bs k _ d (leb k (length out)) refl e
+    go (bad c) d e = not-accepted e
+
+-- the law of writing: the whole read of what was written accepts it, at that version, and its tables mean what the written tables meant
+pub written-reads : (m : Message) → proper m ≡ true → (v : ℤ) (lent : List ℕ) (st : Tables) (bs : List ℕ) (n : ℕ) → (d : Made m v lent st bs n) → (w : Bool) → Laid w (shape m (d .version)) (suc (m .tables)) bs (meant lent st (shape m (d .version))) (length bs)
+unfolding body
+written-reads m h v lent st bs n d w =
+    let l = shape m (d .version) in
+    let o = owed m h (d .version) (d .known) in
+    let x = meant lent st l in
+    subst (λ (u : List ℕ). Laid w l (suc (m .tables)) u x (length u)) (sym (d .bytes-are))
+    (round-trip w l (suc (m .tables)) x (omega arith) (o .names) (o .eating) (let k = d .short in let q : length bs ≡ length (body lent st l) = ap length (d .bytes-are) in omega arith) (d .clean))
+
+-- the shape of a version; one that is refused with 1 has none
+abbrev pub shapeAt : Message → ℤ → Shape
+shapeAt m (pos v) = shape m v
+shapeAt m (negsuc v) = shape m 0
+
+-- the body bs is read at version v, prefix and whole, with every byte used, into tables that mean what `st` and `lent` meant
+pub record ComesBack (m : Message) (v : ℤ) (lent : List ℕ) (st : Tables) (bs : List ℕ) : Type 0 where
+  pub su : (w : Bool) → Tables
+  pub is-seen : (w : Bool) → seen w m v bs ≡ ok (su w) (length bs)
+  pub equal : (w : Bool) → meant bs (su w) (shapeAt m v) ≡ meant lent st (shapeAt m v)
+
+pub comes-back : (m : Message) → proper m ≡ true → (v : ℤ) (lent : List ℕ) (st : Tables) (out r : List ℕ) (n : ℕ) (after : List ℕ) →
+    writeAnswer m v lent st out ≡ (accepted r n, after) → (length (take n after) ≡ n) × ComesBack m v lent st (take n after)
+comes-back m h v lent st out r n after e = from-made (write-inv m v lent st out r n after e)
+  where
+    read-it : (bs : List ℕ) → (d : Made m v lent st bs n) → ComesBack m v lent st bs
+    read-it bs d = record {
+      su = λ w. laid-of w .st;
+      is-seen = λ w. ap (λ (z : ℤ). seen w m z bs) (d .is) ∙ both-ways w;
+      equal = λ w. subst (λ (z : ℤ). meant bs (laid-of w .st) (shapeAt m z) ≡ meant lent st (shapeAt m z)) (sym (d .is)) (laid-of w .means);
+    }
+      where
+        laid-of : (w : Bool) → Laid w (shape m (d .version)) (suc (m .tables)) bs (meant lent st (shape m (d .version))) (length bs)
+        laid-of w = written-reads m h v lent st bs n d w
+
+        both-ways : (w : Bool) → seen w m (pos (d .version)) bs ≡ ok (laid-of w .st) (length bs)
+        both-ways true = seen-whole m (d .version) bs (laid-of true .st) (d .known) (d .short) (laid-of true .reads)
+        both-ways false = seen-prefix m (d .version) bs (laid-of false .st) (length bs) (d .known) (d .short) (laid-of false .reads)
+
+    from-made : Wrote m v lent st out n after → (length (take n after) ≡ n) × ComesBack m v lent st (take n after)
+    from-made w =
+        let d = made-inv m v lent st (w .bs) n (w .is-made) in
+        let t : take n after ≡ w .bs = ap (take n) (w .after-is) ∙ take-at (w .bs) (drop n out) n (sym (d .size-is)) in
+        (ap length t ∙ sym (d .size-is), subst (ComesBack m v lent st) (sym t) (read-it (w .bs) d))

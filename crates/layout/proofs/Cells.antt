@@ -1,0 +1,142 @@
+-- Numbers as cells: a cell shows the number that its bytes carry, holds it, and gives the same bytes back. One law for all widths.
+use mathlib.Core.Bool.{Bool, cond, false, true}
+use mathlib.Core.List.{[], _++_, _∷_}
+use mathlib.Core.Path.{_∙_, _≡_, ap, refl, sym}
+use Prim.Native.Nat.{_%_, _*_, _+_, _-_, _/_, _<_, _^_, _≤_, suc, zero, ℕ}
+use native.Mathlib.Nat.{mul-assoc, pow-suc}
+use native.Mathlib.Omega.{arith}
+use lib.Dec.{leb, lit≤, ltb}
+use lib.IntN.{negsuc, pos, ℤ}
+use mir.Syntax as Mir
+use mir.Val.{ofZ, toZ}
+use Rattle.layout.specs.Primitives.{Width, bits, bytes, cellOf, holds, signed, size, w16, w32, w64, w8}
+use Rattle.layout.proofs.Tests.{le-true, lt-false, lt-true, of-ge, of-le, of-lt}
+
+-- only the lowest k bytes count
+pub bytes-mod : (k n q : ℕ) → bytes k (n + q * 256 ^ k) ≡ bytes k n
+unfolding bytes
+bytes-mod zero n q = refl
+bytes-mod (suc k) n q =
+    let e : q * 256 ^ suc k ≡ q * 256 ^ k * 256 = ap (λ (x : ℕ). q * x) (pow-suc 256 k) ∙ sym (mul-assoc q (256 ^ k) 256) in
+    let d : (n + q * 256 ^ suc k) / 256 ≡ n / 256 + q * 256 ^ k = omega (arith, e) in
+    let m : (n + q * 256 ^ suc k) % 256 ≡ n % 256 = omega (arith, e) in
+    λ i. (ap (bytes k) d ∙ bytes-mod k (n / 256) q) i ++ (m i ∷ [])
+
+-- what differs between the widths, in numbers: half the patterns are negative, and `above` is what sign extension adds
+pub record Powers (w : Width) : Type 0 where
+  pub least : 1 ≤ 2 ^ (bits w - 1)
+  pub half : 2 ^ bits w ≡ 2 * 2 ^ (bits w - 1)
+  pub power : 256 ^ size w ≡ 2 ^ bits w
+  pub above : ℕ
+  pub whole : 2 ^ 64 ≡ 2 ^ bits w + above * 256 ^ size w
+
+pub powers : (w : Width) → Powers w
+powers w8 = record { least = lit≤ tt; half = refl; power = refl; above = 2 ^ 56 - 1; whole = refl }
+powers w16 = record { least = lit≤ tt; half = refl; power = refl; above = 2 ^ 48 - 1; whole = refl }
+powers w32 = record { least = lit≤ tt; half = refl; power = refl; above = 2 ^ 32 - 1; whole = refl }
+powers w64 = record { least = lit≤ tt; half = refl; power = refl; above = 0; whole = refl }
+
+module _ (w : Width) where
+  -- the cell of a pattern
+  abbrev pub extend : ℕ → ℕ
+  extend n = cellOf (signed w n)
+
+  pub extend-low : (n : ℕ) → n < 2 ^ (bits w - 1) → extend n ≡ n
+  unfolding signed
+  extend-low n h = rw (lt-true n (2 ^ (bits w - 1)) h)
+
+  pub extend-high : (n : ℕ) → 2 ^ (bits w - 1) ≤ n → n < 2 ^ bits w → extend n ≡ n + powers w .above * 256 ^ size w
+  unfolding signed
+  extend-high n h g = rw (lt-false n (2 ^ (bits w - 1)) h) (let e = powers w .whole in omega arith)
+
+  -- either way
+  extend-case : (P : ℕ → Type 0) (n : ℕ) → n < 2 ^ bits w → (n < 2 ^ (bits w - 1) → P n) → (2 ^ (bits w - 1) ≤ n → P (n + powers w .above * 256 ^ size w)) → P (extend n)
+  extend-case P n h low high = go (ltb n (2 ^ (bits w - 1))) refl
+    where
+      go : (b : Bool) → ltb n (2 ^ (bits w - 1)) ≡ b → P (extend n)
+      go true e = rw (extend-low n (of-lt _ _ e)) (low (of-lt _ _ e))
+      go false e = rw (extend-high n (of-ge _ _ e) h) (high (of-ge _ _ e))
+
+  pub extend-bytes : (n : ℕ) → n < 2 ^ bits w → bytes (size w) (extend n) ≡ bytes (size w) n
+  extend-bytes n h = extend-case (λ c. bytes (size w) c ≡ bytes (size w) n) n h (λ g. refl) (λ g. bytes-mod (size w) n (powers w .above))
+
+  holds-low : (n : ℕ) → n < 2 ^ (bits w - 1) → holds w n ≡ true
+  unfolding holds
+  holds-low n h = rw (lt-true n (2 ^ (bits w - 1)) h)
+
+  holds-high : (n : ℕ) → 2 ^ (bits w - 1) ≤ n → n < 2 ^ bits w → holds w (n + powers w .above * 256 ^ size w) ≡ true
+  unfolding holds
+  holds-high n h g =
+      let p = powers w in
+      let c = n + p .above * 256 ^ size w in
+      rw (lt-false c (2 ^ (bits w - 1)) (omega arith), le-true (2 ^ 64 - 2 ^ (bits w - 1)) c (omega (arith, p .whole, p .half))) (lt-true c (2 ^ 64) (omega (arith, p .whole)))
+
+  pub extend-holds : (n : ℕ) → n < 2 ^ bits w → holds w (extend n) ≡ true
+  extend-holds n h = extend-case (λ c. holds w c ≡ true) n h (holds-low n) (λ g. holds-high n g h)
+
+-- a cell shows the number that it was made of
+shows-pos : (n : ℕ) → n < 2 ^ 63 → signed w64 n ≡ pos n
+unfolding signed
+shows-pos n h = rw (lt-true n 9223372036854775808 h)
+
+shows-neg : (n : ℕ) → n < 2 ^ 63 → signed w64 (2 ^ 64 - suc n) ≡ negsuc n
+unfolding signed
+shows-neg n h = rw (lt-false (2 ^ 64 - suc n) 9223372036854775808 (omega arith)) (ap negsuc (omega arith))
+
+pub extend-shows : (w : Width) (n : ℕ) → n < 2 ^ bits w → signed w64 (extend w n) ≡ signed w n
+unfolding signed
+extend-shows w n h = go (ltb n (2 ^ (bits w - 1))) refl
+  where
+    go : (b : Bool) → ltb n (2 ^ (bits w - 1)) ≡ b → signed w64 (cellOf (cond b (pos n) (negsuc (2 ^ bits w - suc n)))) ≡ cond b (pos n) (negsuc (2 ^ bits w - suc n))
+    go true e = let i : n < 2 ^ (bits w - 1) = of-lt _ _ e in let p = powers w in shows-pos n (omega (arith, p .half, p .whole))
+    go false e = let i : 2 ^ (bits w - 1) ≤ n = of-ge _ _ e in let p = powers w in shows-neg (2 ^ bits w - suc n) (omega (arith, p .half, p .whole))
+
+-- the pattern in its width that a cell extends
+pub record Pattern (w : Width) (c : ℕ) : Type 0 where
+  pub n : ℕ
+  pub small : n < 256 ^ size w
+  pub is : extend w n ≡ c
+  pub same : bytes (size w) c ≡ bytes (size w) n
+
+pub pattern : (w : Width) (c : ℕ) → holds w c ≡ true → Pattern w c
+unfolding holds
+pattern w c h = go (ltb c (2 ^ (bits w - 1))) refl (leb (2 ^ 64 - 2 ^ (bits w - 1)) c) refl h
+  where
+    low : c < 2 ^ (bits w - 1) → Pattern w c
+    low i = let p = powers w in record { n = c; small = omega (arith, p .half, p .power); is = extend-low w c i; same = refl }
+
+    -- n extends to c
+    high : (n : ℕ) → c ≡ n + powers w .above * 256 ^ size w → 2 ^ (bits w - 1) ≤ n → n < 2 ^ bits w → Pattern w c
+    high n e i j = record {
+      n = n;
+      small = omega (arith, powers w .power);
+      is = extend-high w n i j ∙ sym e;
+      same = ap (bytes (size w)) e ∙ bytes-mod (size w) n (powers w .above);
+    }
+
+    go : (a : Bool) → ltb c (2 ^ (bits w - 1)) ≡ a → (b : Bool) → leb (2 ^ 64 - 2 ^ (bits w - 1)) c ≡ b → cond a true (cond b (ltb c (2 ^ 64)) false) ≡ true → Pattern w c
+    go true d b e h = low (of-lt _ _ d)
+    go false d true e h =
+        let i : 2 ^ 64 - 2 ^ (bits w - 1) ≤ c = of-le _ _ e in
+        let j : c < 2 ^ 64 = of-lt _ _ h in
+        let p = powers w in
+        high (c - p .above * 256 ^ size w) (omega (arith, p .whole, p .half)) (omega (arith, p .whole, p .half)) (omega (arith, p .whole, p .half))
+    go false d false e h = let z : _≡_ {A = ℕ} 0 1 = cc in absurd (omega arith)
+
+-- the compiler's widths, and its signed numbers: the same
+abbrev pub inMir : Width → Mir.Width
+inMir w8 = Mir.w8
+inMir w16 = Mir.w16
+inMir w32 = Mir.w32
+inMir w64 = Mir.w64
+
+pub signed-is : (w : Width) (n : ℕ) → signed w n ≡ toZ (inMir w) n
+unfolding signed
+signed-is w8 n = refl
+signed-is w16 n = refl
+signed-is w32 n = refl
+signed-is w64 n = refl
+
+pub cell-is : (z : ℤ) → cellOf z ≡ ofZ (inMir w64) z
+cell-is (pos n) = refl
+cell-is (negsuc n) = refl

@@ -1,0 +1,62 @@
+-- The feared night cannot come: of the three ApiVersions response layouts (version 0; 1 and 2; 3) at most one accepts a body read whole,
+-- and what was written at a version is accepted whole there, comes back, and is refused at the other two.
+use mathlib.Core.Bool.{true}
+use mathlib.Core.List.{List}
+use mathlib.Core.Logic.{_≢_}
+use mathlib.Core.Path.{_∙_, _≡_, ap, refl, subst, sym}
+use Prim.Native.Nat.{_≤_, ℕ}
+use native.Mathlib.Omega.{arith}
+use lib.IntN.{ℤ, negsuc, pos}
+use lib.ListN.{length, take}
+use Rattle.layout.specs.Reading.{Refusal, Res, bad, ok}
+use Rattle.layout.specs.Rows.{Shape}
+use Rattle.layout.specs.Tables.{Tables}
+use Rattle.layout.specs.Answers.{accepted, meant, refused, seen, shape, wholeRead, writeAnswer}
+use Rattle.layout.specs.Messages.ApiVersions as Api
+use Rattle.layout.proofs.Again.{means-again}
+use Rattle.layout.proofs.Calls.{ComesBack, Seen, comes-back, read-inv, read-refused, seen-fits, seen-inv}
+use Rattle.layout.proofs.Exclusive.{Accepted, Era, eraOf, exclusive, layout-is, layoutOf}
+use Rattle.layout.proofs.Proper.{api-response}
+
+-- the layout of a version
+abbrev pub era : ℤ → Era
+era (pos v) = eraOf v
+era (negsuc v) = eraOf 0
+
+-- a body seen whole is accepted at the layout of its version
+at-its-layout : (v : ℤ) (s : List ℕ) (st : Tables) (n : ℕ) → seen true Api.response v s ≡ ok st n → Accepted (layoutOf (era v)) s
+at-its-layout v s st n e = go (seen-inv true Api.response v s st n e) (seen-fits Api.response v s true st n e)
+  where
+    go : Seen true Api.response v s st n → n ≤ length s → Accepted (layoutOf (era v)) s
+    go d fits =
+        let a = d .to-the-end refl in
+        let x : n ≡ length s = omega arith in
+        let z : era v ≡ eraOf (d .version) = ap era (d .is) in
+        let l = shape Api.response (d .version) in
+        let b : Accepted l s = record { x = meant s st l; whole-read = means-again (d .version) (d .known) true s st n (d .short) (d .reads) ∙ ap (λ (k : ℕ). ok (meant s st l) k) x } in
+        subst (λ (f : Era). Accepted (layoutOf f) s) (sym z) (subst (λ (l : Shape). Accepted l s) (layout-is (d .version) (d .known)) b)
+
+-- whatever tables are lent: two versions that accept a body whole have one layout
+pub at-most-one : (v w : ℤ) (s : List ℕ) (room room′ : Tables) (r r′ : List ℕ) (n n′ : ℕ) (after after′ : Tables) →
+    wholeRead Api.response v room s ≡ (accepted r n, after) → wholeRead Api.response w room′ s ≡ (accepted r′ n′, after′) → era v ≡ era w
+unfolding wholeRead
+at-most-one v w s room room′ r r′ n n′ after after′ a b =
+    let c = read-inv Api.response v s room true r n after a in
+    let d = read-inv Api.response w s room′ true r′ n′ after′ b in
+    exclusive s (seen-inv true Api.response v s (c .st) n (c .is-seen) .short) (era v) (era w) (at-its-layout v s (c .st) n (c .is-seen)) (at-its-layout w s (d .st) n′ (d .is-seen))
+
+-- a body accepted whole at one layout is refused at every version of another, whatever tables are lent, and they are as they were
+pub other-refuses : (v w : ℤ) (s : List ℕ) (st : Tables) (n : ℕ) → seen true Api.response v s ≡ ok st n → era v ≢ era w → (e : Refusal) × ((room : Tables) → wholeRead Api.response w room s ≡ (refused e, room))
+unfolding wholeRead
+other-refuses v w s st n a apart = go (seen true Api.response w s) refl
+  where
+    go : (o : Res Tables) → seen true Api.response w s ≡ o → (e : Refusal) × ((room : Tables) → wholeRead Api.response w room s ≡ (refused e, room))
+    go (bad e) d = (e, λ room. read-refused Api.response w s room true e d)
+    go (ok su k) d = absurd (apart (exclusive s (seen-inv true Api.response v s st n a .short) (era v) (era w) (at-its-layout v s st n a) (at-its-layout w s su k d)))
+
+-- what the writer accepted at version v is accepted whole at v and means the same; at a version of another layout it is refused
+pub written-once : (v : ℤ) (lent : List ℕ) (st : Tables) (out r : List ℕ) (n : ℕ) (after : List ℕ) → writeAnswer Api.response v lent st out ≡ (accepted r n, after) →
+    ComesBack Api.response v lent st (take n after) × ((w : ℤ) → era v ≢ era w → (e : Refusal) × ((room : Tables) → wholeRead Api.response w room (take n after) ≡ (refused e, room)))
+written-once v lent st out r n after e =
+    let c = comes-back Api.response api-response v lent st out r n after e .1 in
+    (c, λ w apart. other-refuses v w (take n after) (c .su true) (length (take n after)) (c .is-seen true) apart)

@@ -1,0 +1,253 @@
+-- A body of an ApiVersions response is accepted whole at no two versions, but for 1 and 2, whose layouts are the same.
+use mathlib.Core.Bool.{Bool, false, true}
+use mathlib.Core.List.{List, [], _∷_}
+use mathlib.Core.Path.{_∙_, _≡_, ap, refl, subst, sym}
+use Prim.Native.Nat.{_*_, _+_, _-_, _<_, _^_, _≤_, suc, zero, ℕ}
+use native.Mathlib.Nat.{add-zero, suc-mul}
+use native.Mathlib.Omega.{arith}
+use lib.Dec.{eqb, ltb}
+use lib.ListN.{drop, length, take}
+use Rattle.layout.specs.Reading.{Reader, fail, give, many, ok, pair, pick, primitive, then}
+use Rattle.layout.specs.Primitives.{Width, be, cell, checked, compact, empty, fixed, groups, int, lengthOf, plain, size, sized, unsigned, w16, w32}
+use Rattle.layout.specs.Rows.{Basic, Shape, Value, absent, array, at, blob, end, field, lacking, natural, number, optional, standing, stands, tagRows}
+use Rattle.layout.specs.Read.{byBytes, read, readBasic}
+use Rattle.layout.specs.Answers.{most, shape}
+use Rattle.layout.proofs.Tests.{nonzero}
+use Rattle.layout.proofs.Local.{not-ok}
+use Rattle.layout.proofs.Steps.{Number, Pair, checked-inv, checked-some, int-inv, int-ok, many-none, many-uncons, pair-inv, split}
+use Rattle.layout.specs.Messages.ApiVersions as Api
+
+-- ---- the layouts of the four versions
+
+abbrev pub key : Shape → Shape
+key r = field (number w16) (field (number w16) (field (number w16) r))
+
+-- a tag and its data
+abbrev pub tag : Shape
+tag = field natural (field (blob plain) end)
+
+-- the same, of a version without tags
+abbrev pub noTag : Shape
+noTag = absent natural (absent (blob plain) end)
+
+abbrev pub oldKey : Shape
+oldKey = key (lacking plain 2 noTag end)
+
+abbrev pub newKey : Shape
+newKey = key (array plain 2 tag end)
+
+abbrev pub throttle : Basic
+throttle = optional (0 ∷ []) (number w32)
+
+abbrev pub shape0 : Shape
+shape0 = field (number w16) (array (fixed w32 empty) 1 oldKey (absent throttle (lacking plain 2 noTag end)))
+
+abbrev pub shape1 : Shape
+shape1 = field (number w16) (array (fixed w32 empty) 1 oldKey (field throttle (lacking plain 2 noTag end)))
+
+abbrev pub shape3 : Shape
+shape3 = field (number w16) (array (compact empty) 1 newKey (field throttle (array plain 2 tag end)))
+
+-- ---- an array that may not be null
+
+record Items {A : Type 0} (len : Reader ℕ) (r : ℕ → Reader A) (p : ℕ) (s : List ℕ) (x : A) (m : ℕ) : Type 0 where
+  n : ℕ
+  a : ℕ
+  k : ℕ
+  count-is : len p s ≡ ok (n + 1) a
+  items : r n (p + a) (drop a s) ≡ ok x k
+  total : m ≡ a + k
+
+sized-inv : {A : Type 0} (e : ℕ) (len : Reader ℕ) (r : ℕ → Reader A) (p : ℕ) (s : List ℕ) (x : A) (m : ℕ) → sized false false e len r p s ≡ ok x m → Items len r p s x m
+unfolding sized
+sized-inv {A} e len r p s x m h =
+    let d = split (checked false e len) _ p s x m h in
+    let z = nonzero (d .x) (checked-some e len p s (d .x) (d .n) (d .first)) in
+    let q : d .x - 1 + 1 ≡ d .x = omega arith in
+    record { n = d .x - 1; a = d .n; k = d .k; count-is = rw q (checked-inv false e len p s (d .x) (d .n) (d .first)); items = d .second; total = d .sum }
+
+-- a count of four bytes
+count-inv : (p : ℕ) (s : List ℕ) (n a : ℕ) → lengthOf unsigned (fixed w32 empty) p s ≡ ok (n + 1) a → Number 4 s n a
+unfolding lengthOf pick give fail
+count-inv p s n a h =
+    let b = split (int 4) _ p s (n + 1) a h in
+    go (b .x) (b .n) (b .k) _ (b .sum) (int-inv 4 p s (b .x) (b .n) (b .first)) (ltb (b .x) 2147483648) (eqb (b .x) 4294967295) (b .second)
+  where
+    go : (x i j q : ℕ) → a ≡ i + j → Number 4 s x i → (t u : Bool) → pick t (give (x + 1)) (pick u (give 0) (fail q)) (p + i) (drop i s) ≡ ok (n + 1) j → Number 4 s n a
+    go x i j q e c true u g = let w : x + 1 ≡ n + 1 = cc in let v : 0 ≡ j = cc in record { fits = c .fits; is = omega (arith, c .is); used = omega (arith, c .used) }
+    go x i j q e c false true g = let w : 0 ≡ n + 1 = cc in absurd (omega arith)
+    go x i j q e c false false g = not-ok g
+
+-- ---- readers that always use as many bytes
+
+record Always {A : Type 0} (r : Reader A) (k : ℕ) : Type 0 where
+  law : (p : ℕ) (s : List ℕ) (x : A) (n : ℕ) → r p s ≡ ok x n → n ≡ k
+
+always-give : {A : Type 0} (x : A) → Always (give x) 0
+unfolding give
+always-give x = record { law = λ p s y n e. cc }
+
+always-int : (k : ℕ) → Always (int k) k
+always-int k = record { law = λ p s x n e. int-inv k p s x n e .used }
+
+always-then : {A B : Type 0} (r : Reader A) (f : A → Reader B) (a b : ℕ) → Always r a → ((x : A) → Always (f x) b) → Always (then r f) (a + b)
+always-then r f a b h g = record {
+  law = λ p s y m e.
+      let d = split r f p s y m e in
+      omega (arith, d .sum, h .law p s (d .x) (d .n) (d .first), g (d .x) .law _ _ y (d .k) (d .second));
+}
+
+always-pair : {A B : Type 0} (r : Reader A) (q : Reader B) (a b : ℕ) → Always r a → Always q b → Always (pair r q) (a + b)
+always-pair {A} {B} r q a b h g = record { law = λ p s z m e. go p s z m (pair-inv r q p s z m e) }
+  where
+    go : (p : ℕ) (s : List ℕ) (z : A × B) (m : ℕ) → Pair r q p s z m → m ≡ a + b
+    go p s z m d = omega (arith, d .sum, h .law p s (z .0) (d .n) (d .first), g .law _ _ (z .1) (d .k) (d .second))
+
+always-many : {A : Type 0} (r : Reader A) (k : ℕ) → Always r k → (n p : ℕ) (s : List ℕ) (xs : List A) (m : ℕ) → many n r p s ≡ ok xs m → m ≡ n * k
+always-many r k h zero p s xs m e = let d = many-none r p s in let z : m ≡ 0 = cc in omega arith
+always-many r k h (suc n) p s xs m e =
+    let c = many-uncons r n p s xs m e in
+    rw suc-mul (omega (arith, c .sum, h .law p s (c .x) (c .n) (c .first), always-many r k h n _ _ (c .xs) (c .m) (c .rest)))
+
+always-cell : (w : Width) → Always (cell w) (size w)
+unfolding cell
+always-cell w = record { law = λ p s x n e. always-then (int (size w)) _ (size w) 0 (always-int (size w)) (λ y. always-give _) .law p s x n e ∙ add-zero (size w) }
+
+-- ---- a reader of known length in front: the place of the rest is a numeral
+
+record Front {A B : Type 0} (k : ℕ) (q : Reader B) (p : ℕ) (s : List ℕ) (z : A × B) (m : ℕ) : Type 0 where
+  n : ℕ
+  later : q (p + k) (drop k s) ≡ ok (z .1) n
+  total : m ≡ k + n
+
+front-inv : {A B : Type 0} (k : ℕ) (r : Reader A) (q : Reader B) (p : ℕ) (s : List ℕ) (z : A × B) (m : ℕ) → Always r k → pair r q p s ≡ ok z m → Front k q p s z m
+front-inv {A} {B} k r q p s z m h e = go (pair-inv r q p s z m e)
+  where
+    go : Pair r q p s z m → Front k q p s z m
+    go a =
+        let u = h .law p s (z .0) (a .n) (a .first) in
+        record { n = a .k; later = subst (λ (j : ℕ). q (p + j) (drop j s) ≡ ok (z .1) (a .k)) u (a .second); total = omega (arith, a .sum) }
+
+-- ---- how many bytes versions 0, 1 and 2 use: six for each item
+
+abbrev keyReader : Reader (Value (List ℕ) oldKey)
+keyReader = read (byBytes true) oldKey
+
+always-key : Always keyReader 6
+unfolding read readBasic
+always-key = always-pair _ _ 2 4 (always-cell w16) (always-pair _ _ 2 2 (always-cell w16) (always-pair _ _ 2 0 (always-cell w16) (always-give tt)))
+
+abbrev keys : Reader (List (Value (List ℕ) oldKey))
+keys = sized false false 8 (lengthOf unsigned (fixed w32 empty)) (λ n. many n keyReader)
+
+counted : (p : ℕ) (s : List ℕ) (xs : List (Value (List ℕ) oldKey)) (m : ℕ) → keys p s ≡ ok xs m → (4 ≤ length s) × (m ≡ 4 + be 0 (take 4 s) * 6)
+counted p s xs m e = go (sized-inv 8 (lengthOf unsigned (fixed w32 empty)) _ p s xs m e)
+  where
+    go : Items (lengthOf unsigned (fixed w32 empty)) (λ n. many n keyReader) p s xs m → (4 ≤ length s) × (m ≡ 4 + be 0 (take 4 s) * 6)
+    go i =
+        let j = count-inv p s (i .n) (i .a) (i .count-is) in
+        let k = always-many _ 6 always-key (i .n) _ _ xs (i .k) (i .items) in
+        (j .fits, omega (arith, i .total, j .is, j .used))
+
+-- what stands behind the items uses j bytes
+old : {A : Type 0} (q : Reader A) (j : ℕ) (s : List ℕ) (z : ℕ × (List (Value (List ℕ) oldKey) × A)) (m : ℕ) → Always q j → pair (cell w16) (pair keys q) 0 s ≡ ok z m →
+    (4 ≤ length (drop 2 s)) × (m ≡ 6 + be 0 (take 4 (drop 2 s)) * 6 + j)
+old {A} q j s z m a h = go (front-inv 2 (cell w16) _ 0 s z m (always-cell w16) h)
+  where
+    last : (n : ℕ) → m ≡ 2 + n → Pair keys q 2 (drop 2 s) (z .1) n → (4 ≤ length (drop 2 s)) × (m ≡ 6 + be 0 (take 4 (drop 2 s)) * 6 + j)
+    last n i b =
+        let d = counted 2 (drop 2 s) (z .1 .0) (b .n) (b .first) in
+        let u = a .law _ _ (z .1 .1) (b .k) (b .second) in
+        (d .0, omega (arith, b .sum, d .1, u))
+
+    go : Front 2 (pair keys q) 0 s z m → (4 ≤ length (drop 2 s)) × (m ≡ 6 + be 0 (take 4 (drop 2 s)) * 6 + j)
+    go f = last (f .n) (f .total) (pair-inv keys q 2 (drop 2 s) (z .1) (f .n) (f .later))
+
+uses-0 : (s : List ℕ) (x : Value (List ℕ) shape0) (m : ℕ) → read (byBytes true) shape0 0 s ≡ ok x m → (4 ≤ length (drop 2 s)) × (m ≡ 6 + be 0 (take 4 (drop 2 s)) * 6 + 0)
+unfolding read readBasic
+uses-0 s x m h = old _ 0 s x m (always-give tt) h
+
+uses-1 : (s : List ℕ) (x : Value (List ℕ) shape1) (m : ℕ) → read (byBytes true) shape1 0 s ≡ ok x m → (4 ≤ length (drop 2 s)) × (m ≡ 6 + be 0 (take 4 (drop 2 s)) * 6 + 4)
+unfolding read readBasic
+uses-1 s x m h = old _ 4 s x m (always-pair _ _ 4 0 (always-cell w32) (always-give tt)) h
+
+-- ---- a small count in four bytes begins with the byte 0, which is null at version 3
+
+zero-is : (p : ℕ) (t : List ℕ) → unsigned p (0 ∷ t) ≡ ok 0 1
+unfolding unsigned primitive groups then pick give
+zero-is p t = let h : 1 ≤ length (0 ∷ t) = omega arith in rw (int-ok 1 p (0 ∷ t) h)
+
+small : (s : List ℕ) → 4 ≤ length s → be 0 (take 4 s) < 2 ^ 24 → (t : List ℕ) × (s ≡ 0 ∷ t)
+small [] h g = absurd (omega arith)
+small (a ∷ []) h g = absurd (omega arith)
+small (a ∷ b ∷ []) h g = absurd (omega arith)
+small (a ∷ b ∷ c ∷ []) h g = absurd (omega arith)
+small (a ∷ b ∷ c ∷ d ∷ s) h g = let z : a ≡ 0 = omega arith in (b ∷ c ∷ d ∷ s, ap (λ (x : ℕ). x ∷ (b ∷ c ∷ d ∷ s)) z)
+
+not-3 : (s : List ℕ) (x : Value (List ℕ) shape3) (m : ℕ) (t : List ℕ) → drop 2 s ≡ 0 ∷ t → read (byBytes true) shape3 0 s ≡ ok x m → ⊥
+unfolding read readBasic lengthOf
+not-3 s x m t d h =
+    let f = front-inv 2 (cell w16) _ 0 s x m (always-cell w16) h in
+    let b = pair-inv _ _ 2 (drop 2 s) (x .1) _ (f .later) in
+    let i = sized-inv 8 unsigned _ 2 (drop 2 s) (x .1 .0) _ (b .first) in
+    end-it (i .n) (i .a) (i .count-is)
+  where
+    end-it : (n a : ℕ) → unsigned 2 (drop 2 s) ≡ ok (n + 1) a → ⊥
+    end-it n a g = let k : ok 0 1 ≡ ok (n + 1) a = sym (zero-is 2 t) ∙ ap (unsigned 2) (sym d) ∙ g in let w : 0 ≡ n + 1 = cc in omega arith
+
+-- ---- the theorem
+
+-- s is accepted whole at the layout l: every byte is used
+pub record Accepted (l : Shape) (s : List ℕ) : Type 0 where
+  pub x : Value (List ℕ) l
+  pub whole-read : read (byBytes true) l 0 s ≡ ok x (length s)
+
+-- the layouts: of version 0, of 1 and 2, of 3
+pub data Era : Type 0 where
+  bare throttled flexible : Era
+
+abbrev pub eraOf : ℕ → Era
+eraOf zero = bare
+eraOf (suc zero) = throttled
+eraOf (suc (suc zero)) = throttled
+eraOf (suc (suc (suc v))) = flexible
+
+abbrev pub layoutOf : Era → Shape
+layoutOf bare = shape0
+layoutOf throttled = shape1
+layoutOf flexible = shape3
+
+pub layout-is : (v : ℕ) → v ≤ 3 → shape Api.response v ≡ layoutOf (eraOf v)
+unfolding shape at stands standing tagRows Api.responseRows Api.keyRows
+layout-is zero h = refl
+layout-is (suc zero) h = refl
+layout-is (suc (suc zero)) h = refl
+layout-is (suc (suc (suc zero))) h = refl
+layout-is (suc (suc (suc (suc v)))) h = absurd (omega arith)
+
+module _ (s : List ℕ) (short : length s ≤ most) where
+  not-0-1 : Accepted shape0 s → Accepted shape1 s → ⊥
+  not-0-1 a b = omega (arith, uses-0 s (a .x) (length s) (a .whole-read) .1, uses-1 s (b .x) (length s) (b .whole-read) .1)
+
+  not-0-3 : Accepted shape0 s → Accepted shape3 s → ⊥
+  not-0-3 a b =
+      let c = uses-0 s (a .x) (length s) (a .whole-read) in
+      let d = small (drop 2 s) (c .0) (omega (arith, c .1)) in
+      not-3 s (b .x) (length s) (d .0) (d .1) (b .whole-read)
+
+  not-1-3 : Accepted shape1 s → Accepted shape3 s → ⊥
+  not-1-3 a b =
+      let c = uses-1 s (a .x) (length s) (a .whole-read) in
+      let d = small (drop 2 s) (c .0) (omega (arith, c .1)) in
+      not-3 s (b .x) (length s) (d .0) (d .1) (b .whole-read)
+
+  pub exclusive : (f g : Era) → Accepted (layoutOf f) s → Accepted (layoutOf g) s → f ≡ g
+  exclusive bare bare a b = refl
+  exclusive bare throttled a b = absurd (not-0-1 a b)
+  exclusive bare flexible a b = absurd (not-0-3 a b)
+  exclusive throttled bare a b = absurd (not-0-1 b a)
+  exclusive throttled throttled a b = refl
+  exclusive throttled flexible a b = absurd (not-1-3 a b)
+  exclusive flexible bare a b = absurd (not-0-3 b a)
+  exclusive flexible throttled a b = absurd (not-1-3 b a)
+  exclusive flexible flexible a b = refl

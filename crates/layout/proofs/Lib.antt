@@ -1,0 +1,45 @@
+-- What holds of every layout. Nothing here has to be believed: it is proved.
+
+-- tools: tests of numbers, a reader's steps backward, sums, what holds of all texts of a value
+pub mod Tests
+pub mod Steps
+pub mod Every
+pub mod Sums
+-- primitives: numbers as cells, zigzag, text by the grammar
+pub mod Cells
+pub mod Zigzag
+pub mod Text
+-- an accepted read rests on the bytes it used; a refused one tells a number and a place in the message
+pub mod Local
+pub mod Refusals
+-- what is written reads back
+pub mod Back
+-- with shortest varints, what is read is written the same; and what was read has no 7 or 11
+pub mod Canon
+pub mod Strict
+pub mod Clean
+-- readers that differ in what a text is, or in how rows are kept, give the same
+pub mod Maps
+pub mod Codecs
+pub mod Link
+-- the rows that a read keeps are those that a write takes, and mean the value
+pub mod Same
+pub mod Decode
+pub mod Parts
+pub mod Trip
+-- what each table holds, and the need; 13 is not given for what was read
+pub mod Contents
+pub mod Good
+-- messages: what each owes, and the laws of its calls
+pub mod Proper
+pub mod Calls
+-- ApiVersions responses: no body is good at two layouts, what was read is written again, and the mission's third demand
+pub mod Exclusive
+pub mod Again
+pub mod Demand3
+-- version agreement and address lookup
+pub mod FirstRow
+pub mod Agreed
+pub mod Looked
+-- the worked examples, computed
+pub mod Examples

@@ -1,0 +1,367 @@
+-- A text that is shown is the part of the message that its place and length name, and lies inside it; no list is too long for its count cell. For every shape.
+use mathlib.Core.Bool.{Bool, false, true}
+use mathlib.Core.List.{List, [], _∷_, map}
+use mathlib.Core.Option.{none, some}
+use mathlib.Core.Path.{_∙_, _≡_, ap, refl, subst, sym}
+use Prim.Native.Nat.{_%_, _*_, _+_, _-_, _<_, _^_, _≤_, suc, zero, ℕ}
+use native.Mathlib.Nat.{add-mul, mul-assoc, mul-comm, pow-suc}
+use native.Mathlib.Omega.{arith}
+use lib.Dec.{ltb}
+use lib.ListN.{drop, length, length-drop, length-map}
+use lib.Seq.{drop-drop, length-take-le}
+use Rattle.layout.specs.Reading.{Reader, Res, bad, fail, give, here, many, ok, pair, pick, primitive, raw, then}
+use Rattle.layout.specs.Utf8.{utf8}
+use Rattle.layout.specs.Primitives.{Maybe, Size, Width, cell, checked, compact, fixed, flag, groups, int, keeps, lengthOf, minus, plain, size, sized, unsigned, w16, w32, w64, w8}
+use Rattle.layout.specs.Rows.{Basic, BasicValue, Shape, Value, absent, array, blob, boolean, end, field, lacking, level, natural, number, optional, text}
+use Rattle.layout.specs.Read.{byBytes, byPlace, read, readBasic, readBlob, readText}
+use Rattle.layout.specs.Tables.{Span, slice}
+use Rattle.layout.proofs.Tests.{of-lt}
+use Rattle.layout.proofs.Codecs.{Text, by-bytes, by-place, byBoth, bytesOf, mapBasic, mapList, mapMaybe, mapValue, placeOf}
+use Rattle.layout.proofs.Every.{All, Every, EveryBasic, EveryMaybe, Few}
+use Rattle.layout.proofs.Local.{Local, local-basic, local-blob, local-checked, local-flag, local-length, local-many, local-read, local-sized, local-text, local-unsigned, not-ok}
+use Rattle.layout.proofs.Maps.{over}
+use Rattle.layout.proofs.Steps.{Raw, int-inv, length-many, many-uncons, pair-inv, primitive-inv, raw-inv, split}
+
+-- ---- varints are below 2^64, and take a byte at least
+
+record Group (k m a x n : ℕ) : Type 0 where
+  v : ℕ
+  is : x ≡ a + v * m
+  small : v < 2 * 128 ^ k
+  some-byte : 1 ≤ n
+
+pow-pos : (k : ℕ) → 1 ≤ 128 ^ k
+pow-pos zero = omega arith
+pow-pos (suc k) = omega (arith, pow-suc 128 k, pow-pos k)
+
+group-more : (k m a b v x j n : ℕ) → x ≡ a + b % 128 * m + v * (m * 128) → v < 2 * 128 ^ k → 1 ≤ j → n ≡ j → Group (suc k) m a x n
+group-more k m a b v x j n e h i o = record {
+  v = b % 128 + v * 128;
+  is = (let f : (b % 128 + v * 128) * m ≡ b % 128 * m + v * (m * 128) = add-mul (b % 128) (v * 128) m ∙ ap (λ (z : ℕ). b % 128 * m + z) (mul-assoc v 128 m ∙ ap (λ (z : ℕ). v * z) (mul-comm 128 m)) in omega arith);
+  small = omega (arith, pow-suc 128 k);
+  some-byte = omega arith;
+}
+
+groups-inv : (k m a p : ℕ) (s : List ℕ) (x n : ℕ) → groups k m a p s ≡ ok x n → Group k m a x n
+unfolding groups pick give fail
+groups-inv zero m a p s x n h =
+    let d = split (int 1) _ p s x n h in
+    go (d .x) (d .n) (d .k) _ (d .sum) (int-inv 1 p s (d .x) (d .n) (d .first) .used) (ltb (d .x) 128) refl (d .second)
+  where
+    go : (b j i c : ℕ) → n ≡ j + i → j ≡ 1 → (t : Bool) → ltb b 128 ≡ t → pick t (give (a + b % 2 * m)) (fail c) (p + j) (drop j s) ≡ ok x i → Group zero m a x n
+    go b j i c o u true e g = let z : a + b % 2 * m ≡ x = cc in record { v = b % 2; is = sym z; small = omega arith; some-byte = omega arith }
+    go b j i c o u false e g = let z : _≡_ {A = ℕ} 0 1 = cc in absurd (omega arith)
+groups-inv (suc k) m a p s x n h =
+    let d = split (int 1) _ p s x n h in
+    go (d .x) (d .n) (d .k) (λ y. groups-inv k _ _ _ _ x _ y) (d .sum) (int-inv 1 p s (d .x) (d .n) (d .first) .used) (ltb (d .x) 128) refl (d .second)
+  where
+    go : (b j i : ℕ) → (groups k (m * 128) (a + b % 128 * m) (p + j) (drop j s) ≡ ok x i → Group k (m * 128) (a + b % 128 * m) x i) → n ≡ j + i → j ≡ 1 → (t : Bool) → ltb b 128 ≡ t →
+        pick t (give (a + b * m)) (groups k (m * 128) (a + b % 128 * m)) (p + j) (drop j s) ≡ ok x i → Group (suc k) m a x n
+    go b j i rec o u true e g = let z : a + b * m ≡ x = cc in record { v = b; is = sym z; small = (let l = of-lt b 128 e in let q = pow-pos k in omega (arith, pow-suc 128 k)); some-byte = omega arith }
+    go b j i rec o u false e g = let r = rec g in group-more k m a b (r .v) x n n (r .is) (r .small) (omega arith) refl
+
+pub unsigned-small : (p : ℕ) (s : List ℕ) (x n : ℕ) → unsigned p s ≡ ok x n → (x ≤ minus) × (1 ≤ n)
+unfolding unsigned
+unsigned-small p s x n h =
+    let g = groups-inv 9 1 0 p s x n (primitive-inv _ p s x n h) in
+    let v = g .small in
+    (omega (arith, g .is), g .some-byte)
+
+-- ---- items that take a byte are no more than the message's bytes
+
+record Hungry {A : Type 0} (r : Reader A) : Type 0 where
+  law : (p : ℕ) (s : List ℕ) (x : A) (n : ℕ) → r p s ≡ ok x n → 1 ≤ n
+
+hungry-then : {A B : Type 0} (r : Reader A) (f : A → Reader B) → Hungry r → Hungry (then r f)
+hungry-then r f h = record { law = λ p s y m e. let d = split r f p s y m e in let k = h .law p s (d .x) (d .n) (d .first) in omega (arith, d .sum) }
+
+hungry-primitive : {A : Type 0} (r : Reader A) → Hungry r → Hungry (primitive r)
+hungry-primitive r h = record { law = λ p s x n e. h .law p s x n (primitive-inv r p s x n e) }
+
+hungry-int : (k : ℕ) → 1 ≤ k → Hungry (int k)
+hungry-int k h = record { law = λ p s x n e. let u = int-inv k p s x n e .used in omega arith }
+
+hungry-unsigned : Hungry unsigned
+hungry-unsigned = record { law = λ p s x n e. unsigned-small p s x n e .1 }
+
+hungry-size : (w : Width) → 1 ≤ size w
+hungry-size w8 = omega arith
+hungry-size w16 = omega arith
+hungry-size w32 = omega arith
+hungry-size w64 = omega arith
+
+hungry-length : (z : Size) → Hungry (lengthOf unsigned z)
+unfolding lengthOf
+hungry-length (fixed w m) = hungry-then _ _ (hungry-int (size w) (hungry-size w))
+hungry-length (compact m) = hungry-unsigned
+hungry-length plain = hungry-then _ _ hungry-unsigned
+
+hungry-sized : {A : Type 0} (b a : Bool) (e : ℕ) (z : Size) (r : ℕ → Reader A) → Hungry (sized b a e (lengthOf unsigned z) r)
+unfolding sized checked
+hungry-sized true a e z r = hungry-then _ _ (hungry-primitive _ (hungry-then _ _ (hungry-length z)))
+hungry-sized false a e z r = hungry-then _ _ (hungry-primitive _ (hungry-then _ _ (hungry-length z)))
+
+hungry-cell : (w : Width) → Hungry (cell w)
+unfolding cell
+hungry-cell w = hungry-then _ _ (hungry-int (size w) (hungry-size w))
+
+-- a field or an array stands in l
+abbrev pub Eats : Shape → Type 0
+Eats end = ⊥
+Eats (field k r) = Unit {0}
+Eats (absent k r) = Eats r
+Eats (array z t i r) = Unit {0}
+Eats (lacking z t i r) = Eats r
+
+module _ (q : Bool) where
+  hungry-basic : (k : Basic) → Hungry (readBasic (byBoth q) k)
+  unfolding readBasic flag
+  hungry-basic (number w) = hungry-cell w
+  hungry-basic boolean = hungry-then _ _ (hungry-int 1 (omega arith))
+  hungry-basic level = hungry-cell w8
+  hungry-basic natural = hungry-unsigned
+  hungry-basic (text z) = hungry-primitive _ (hungry-sized (keeps z) _ _ z _)
+  hungry-basic (blob z) = hungry-primitive _ (hungry-sized (keeps z) _ _ z _)
+  hungry-basic (optional d k) = hungry-basic k
+
+  hungry-read : (l : Shape) → Eats l → Hungry (read (byBoth q) l)
+  unfolding read pair
+  hungry-read end h = absurd h
+  hungry-read (field k r) h = hungry-then _ _ (hungry-basic k)
+  hungry-read (absent k r) h = hungry-read r h
+  hungry-read (array z t i r) h = hungry-then _ _ (hungry-sized (keeps z) _ _ z _)
+  hungry-read (lacking z t i r) h = hungry-read r h
+
+hungry-many : {A : Type 0} (r : Reader A) → Hungry r → (n p : ℕ) (s : List ℕ) (xs : List A) (m : ℕ) → many n r p s ≡ ok xs m → n ≤ m
+hungry-many r h zero p s xs m e = omega arith
+hungry-many r h (suc n) p s xs m e =
+    let c = many-uncons r n p s xs m e in
+    let a = h .law p s (c .x) (c .n) (c .first) in
+    let b = hungry-many r h n _ _ (c .xs) (c .m) (c .rest) in
+    omega (arith, c .sum)
+
+-- the items of every array take a byte
+abbrev pub Eating : Shape → Type 0
+Eating end = Unit {0}
+Eating (field k r) = Eating r
+Eating (absent k r) = Eating r
+Eating (array z t i r) = Eats i × Eating i × Eating r
+Eating (lacking z t i r) = Eating r
+
+-- ---- readers that stand in a message
+
+module _ (msg : List ℕ) where
+  pub record Stands (p : ℕ) (s : List ℕ) : Type 0 where
+    pub is : drop p msg ≡ s
+    pub fits : p ≤ length msg
+
+  -- what r gives has P
+  pub record Gives {A : Type 0} (r : Reader A) (P : A → Type 0) : Type 0 where
+    pub law : (p : ℕ) (s : List ℕ) (x : A) (n : ℕ) → Stands p s → r p s ≡ ok x n → P x
+
+  stands-next : (p n : ℕ) (s : List ℕ) → Stands p s → n ≤ length s → Stands (p + n) (drop n s)
+  stands-next p n s h l = record {
+    is = sym (drop-drop n p msg) ∙ ap (drop n) (h .is);
+    fits = (let e : length s ≡ length msg - p = ap length (sym (h .is)) ∙ length-drop p msg in let f = h .fits in omega arith);
+  }
+
+  gives-then : {A B : Type 0} (r : Reader A) (f : A → Reader B) (P : A → Type 0) (Q : B → Type 0) → Local r → Gives r P → ((x : A) → P x → Gives (f x) Q) → Gives (then r f) Q
+  gives-then r f P Q l g h = record {
+    law = λ p s y m a e.
+        let d = split r f p s y m e in
+        h (d .x) (g .law p s (d .x) (d .n) a (d .first)) .law (p + d .n) (drop (d .n) s) y (d .k) (stands-next p (d .n) s a (l .law p s (d .x) (d .n) (d .first) .fits)) (d .second);
+  }
+
+  gives-any : {A : Type 0} (r : Reader A) → Gives r (λ x. Unit {0})
+  gives-any r = record { law = λ p s x n a e. tt }
+
+  gives-give : {A : Type 0} (x : A) (P : A → Type 0) → P x → Gives (give x) P
+  unfolding give
+  gives-give x P h = record { law = λ p s y n a e. let z : x ≡ y = cc in subst P z h }
+
+  gives-pick : {A : Type 0} (b : Bool) (r q : Reader A) (P : A → Type 0) → Gives r P → Gives q P → Gives (pick b r q) P
+  unfolding pick
+  gives-pick true r q P h k = h
+  gives-pick false r q P h k = k
+
+  gives-primitive : {A : Type 0} (r : Reader A) (P : A → Type 0) → Gives r P → Gives (primitive r) P
+  gives-primitive r P g = record { law = λ p s x n a e. g .law p s x n a (primitive-inv r p s x n e) }
+
+  gives-pair : {A B : Type 0} (r : Reader A) (q : Reader B) (P : A → Type 0) (Q : B → Type 0) → Local r → Gives r P → Gives q Q → Gives (pair r q) (λ z. P (z .0) × Q (z .1))
+  gives-pair r q P Q l g h = record {
+    law = λ p s z m a e.
+        let d = pair-inv r q p s z m e in
+        (g .law p s (z .0) (d .n) a (d .first), h .law (p + d .n) (drop (d .n) s) (z .1) (d .k) (stands-next p (d .n) s a (l .law p s (z .0) (d .n) (d .first) .fits)) (d .second));
+  }
+
+  gives-many : {A : Type 0} (r : Reader A) (P : A → Type 0) → Local r → Gives r P → (n : ℕ) → Gives (many n r) (All P)
+  unfolding many
+  gives-many r P l g zero = gives-give [] (All P) tt
+  gives-many r P l g (suc n) = gives-then r _ P _ l g (λ x h. gives-then (many n r) _ (All P) _ (local-many n r l) (gives-many r P l g n) (λ xs k. gives-give (x ∷ xs) (All P) (h, k)))
+
+  gives-few : {A : Type 0} (B : ℕ) (r : Reader A) (P : A → Type 0) → Local r → Gives r P → (n : ℕ) → ((p : ℕ) (s : List ℕ) (xs : List A) (m : ℕ) → Stands p s → many n r p s ≡ ok xs m → n < B) → Gives (many n r) (Few B P)
+  gives-few B r P l g n h = record { law = λ p s xs m a e. (subst (λ (k : ℕ). k < B) (sym (length-many r n p s xs m e)) (h p s xs m a e), gives-many r P l g n .law p s xs m a e) }
+
+  gives-sized : {A : Type 0} (b t : Bool) (e : ℕ) (z : Size) (r : ℕ → Reader A) (P : A → Type 0) → ((n : ℕ) → Local (r n)) → ((n : ℕ) → Gives (r n) P) → Gives (sized b t e (lengthOf unsigned z) r) (EveryMaybe P b)
+  unfolding sized
+  gives-sized true t e z r P l g =
+      gives-then _ _ (λ n. Unit {0}) _ (local-checked true e _ (local-length _ local-unsigned z)) (gives-any _)
+      (λ n h. gives-pick _ _ _ _ (gives-give none (EveryMaybe P true) tt) (gives-then (r (n - 1)) _ P _ (l (n - 1)) (g (n - 1)) (λ x k. gives-give (some x) (EveryMaybe P true) k)))
+  gives-sized false t e z r P l g =
+      gives-then _ _ (λ n. Unit {0}) _ (local-checked t e _ (local-length _ local-unsigned z)) (gives-any _) (λ n h. g (n - 1))
+
+  -- ---- texts
+
+  abbrev pub Part : Text → Type 0
+  Part x = (x .0 + length (x .1) ≤ length msg) × (slice msg (x .0, length (x .1)) ≡ x .1)
+
+  part-is : (p n : ℕ) (s b : List ℕ) (m : ℕ) → Stands p s → Raw n s b m → Part (p, b)
+  unfolding slice
+  part-is p n s b m a r =
+      let e : length b ≡ n = ap length (r .is) ∙ length-take-le n s (r .fits) in
+      let f : length s ≡ length msg - p = ap length (sym (a .is)) ∙ length-drop p msg in
+      let g = a .fits in
+      let h = r .fits in
+      (omega arith, rw (e, a .is) (sym (r .is)))
+
+  module _ (B : ℕ) (small : length msg < B) (q : Bool) where
+    -- as many items as bytes, at most
+    bound : (i : Shape) → Eats i → (n p : ℕ) (s : List ℕ) (xs : List (Value Text i)) (m : ℕ) → Stands p s → many n (read (byBoth q) i) p s ≡ ok xs m → n < B
+    bound i h n p s xs m a e =
+        let k = hungry-many _ (hungry-read q i h) n p s xs m e in
+        let j = local-many n _ (local-read (byBoth q) local-unsigned local-flag i) .law p s xs m e .fits in
+        let f : length s ≡ length msg - p = ap length (sym (a .is)) ∙ length-drop p msg in
+        omega arith
+
+    gives-blob : (n : ℕ) → Gives (readBlob (byBoth q) n) Part
+    unfolding readBlob here give
+    gives-blob n = record {
+      law = λ p s x m a e.
+          let d = split (raw n) _ p s x m e in
+          let c = d .second in
+          let z : (p, d .x) ≡ x = cc in
+          subst Part z (part-is p n s (d .x) (d .n) a (raw-inv n p s (d .x) (d .n) (d .first)));
+    }
+
+    gives-text : (n : ℕ) → Gives (readText (byBoth q) n) Part
+    unfolding readText here give fail pick
+    gives-text n = record {
+      law = λ p s x m a e.
+          let d = split (raw n) _ p s x m e in
+          go p s x (d .x) (d .n) (d .k) _ a (raw-inv n p s (d .x) (d .n) (d .first)) (utf8 (d .x)) (d .second);
+    }
+      where
+        go : (p : ℕ) (s : List ℕ) (x : Text) (b : List ℕ) (i j c : ℕ) → Stands p s → Raw n s b i → (t : Bool) → pick t (give (p, b)) (fail c) (p + i) (drop i s) ≡ ok x j → Part x
+        go p s x b i j c a r true e = let z : (p, b) ≡ x = cc in subst Part z (part-is p n s b i a r)
+        go p s x b i j c a r false e = let z : _≡_ {A = ℕ} 0 1 = cc in absurd (omega arith)
+
+    gives-basic : (k : Basic) → Gives (readBasic (byBoth q) k) (EveryBasic B Part k)
+    unfolding readBasic
+    gives-basic (number w) = gives-any _
+    gives-basic boolean = gives-any _
+    gives-basic level = gives-any _
+    gives-basic natural = gives-any _
+    gives-basic (text z) = gives-primitive _ _ (gives-sized (keeps z) _ _ z _ Part (local-text (byBoth q) local-unsigned local-flag) gives-text)
+    gives-basic (blob z) = gives-primitive _ _ (gives-sized (keeps z) _ _ z _ Part (local-blob (byBoth q) local-unsigned local-flag) gives-blob)
+    gives-basic (optional d k) = gives-basic k
+
+    pub gives-read : (l : Shape) → Eating l → Gives (read (byBoth q) l) (Every B Part l)
+    unfolding read
+    gives-read end h = gives-any _
+    gives-read (field k r) h = gives-pair _ _ (EveryBasic B Part k) (Every B Part r) (local-basic (byBoth q) local-unsigned local-flag k) (gives-basic k) (gives-read r h)
+    gives-read (absent k r) h = gives-read r h
+    gives-read (array z t i r) h =
+        let l = local-read (byBoth q) local-unsigned local-flag i in
+        gives-pair _ _ _ (Every B Part r) (local-sized (keeps z) _ _ _ _ (local-length _ local-unsigned z) (λ n. local-many n _ l))
+        (gives-sized (keeps z) _ _ z _ (λ xs. Few B (Every B Part i) xs) (λ n. local-many n _ l)
+        (λ n. gives-few B _ (Every B Part i) l (gives-read i (h .1)) n (λ p s xs m a e. bound i (h .0) n p s xs m a e))) (gives-read r (h .2))
+    gives-read (lacking z t i r) h = gives-read r h
+
+-- ---- from the two together to places, and from places to bytes
+
+module _ {X Y : Type 0} (K : ℕ) (g : X → Y) (P : X → Type 0) (Q : Y → Type 0) (h : (x : X) → P x → Q (g x)) where
+  every-maybe : (b : Bool) (x : Maybe b X) → EveryMaybe P b x → EveryMaybe Q b (mapMaybe g b x)
+  every-maybe true none e = tt
+  every-maybe true (some x) e = h x e
+  every-maybe false x e = h x e
+
+  every-basic : (k : Basic) (x : BasicValue X k) → EveryBasic K P k x → EveryBasic K Q k (mapBasic g k x)
+  every-basic (number w) x e = tt
+  every-basic boolean x e = tt
+  every-basic level x e = tt
+  every-basic natural x e = tt
+  every-basic (text z) x e = every-maybe (keeps z) x e
+  every-basic (blob z) x e = every-maybe (keeps z) x e
+  every-basic (optional d k) x e = every-basic k x e
+
+  every-items : {A B : Type 0} (f : A → B) (R : A → Type 0) (S : B → Type 0) → ((x : A) → R x → S (f x)) → (xs : List A) → All R xs → All S (map f xs)
+  every-items f R S k [] e = tt
+  every-items f R S k (x ∷ xs) e = (k x (e .0), every-items f R S k xs (e .1))
+
+  every-list : {A B : Type 0} (f : A → B) (R : A → Type 0) (S : B → Type 0) → ((x : A) → R x → S (f x)) → (b : Bool) (xs : Maybe b (List A)) → EveryMaybe (λ xs. Few K R xs) b xs → EveryMaybe (λ xs. Few K S xs) b (mapList b f xs)
+  every-list f R S k true none e = tt
+  every-list f R S k true (some xs) e = (subst (λ (n : ℕ). n < K) (sym (length-map xs f)) (e .0), every-items f R S k xs (e .1))
+  every-list f R S k false xs e = (subst (λ (n : ℕ). n < K) (sym (length-map xs f)) (e .0), every-items f R S k xs (e .1))
+
+  pub every-map : (l : Shape) (x : Value X l) → Every K P l x → Every K Q l (mapValue g l x)
+  every-map end x e = tt
+  every-map (field k r) x e = (every-basic k (x .0) (e .0), every-map r (x .1) (e .1))
+  every-map (absent k r) x e = every-map r x e
+  every-map (array z t i r) x e = (every-list (mapValue g i) (Every K P i) (Every K Q i) (every-map i) (keeps z) (x .0) (e .0), every-map r (x .1) (e .1))
+  every-map (lacking z t i r) x e = every-map r x e
+
+module _ {X Y Z : Type 0} (K : ℕ) (f : X → Y) (g : Y → Z) (h : X → Z) (P : X → Type 0) (e : (x : X) → P x → g (f x) ≡ h x) where
+  same-maybe : (b : Bool) (x : Maybe b X) → EveryMaybe P b x → mapMaybe g b (mapMaybe f b x) ≡ mapMaybe h b x
+  same-maybe true none p = refl
+  same-maybe true (some x) p = ap some (e x p)
+  same-maybe false x p = e x p
+
+  same-basic : (k : Basic) (x : BasicValue X k) → EveryBasic K P k x → mapBasic g k (mapBasic f k x) ≡ mapBasic h k x
+  same-basic (number w) x p = refl
+  same-basic boolean x p = refl
+  same-basic level x p = refl
+  same-basic natural x p = refl
+  same-basic (text z) x p = same-maybe (keeps z) x p
+  same-basic (blob z) x p = same-maybe (keeps z) x p
+  same-basic (optional d k) x p = same-basic k x p
+
+  same-items : {A B C : Type 0} (u : A → B) (v : B → C) (w : A → C) (R : A → Type 0) → ((x : A) → R x → v (u x) ≡ w x) → (xs : List A) → All R xs → map v (map u xs) ≡ map w xs
+  same-items u v w R k [] p = refl
+  same-items u v w R k (x ∷ xs) p = λ i. k x (p .0) i ∷ same-items u v w R k xs (p .1) i
+
+  same-list : {A B C : Type 0} (u : A → B) (v : B → C) (w : A → C) (R : A → Type 0) → ((x : A) → R x → v (u x) ≡ w x) → (b : Bool) (xs : Maybe b (List A)) → EveryMaybe (λ xs. Few K R xs) b xs → mapList b v (mapList b u xs) ≡ mapList b w xs
+  same-list u v w R k true none p = refl
+  same-list u v w R k true (some xs) p = ap some (same-items u v w R k xs (p .1))
+  same-list u v w R k false xs p = same-items u v w R k xs (p .1)
+
+  pub same-map : (l : Shape) (x : Value X l) → Every K P l x → mapValue g l (mapValue f l x) ≡ mapValue h l x
+  same-map end x p = refl
+  same-map (field k r) x p = λ i. (same-basic k (x .0) (p .0) i, same-map r (x .1) (p .1) i)
+  same-map (absent k r) x p = same-map r x p
+  same-map (array z t j r) x p = λ i. (same-list (mapValue f j) (mapValue g j) (mapValue h j) (Every K P j) (same-map j) (keeps z) (x .0) (p .0) i, same-map r (x .1) (p .1) i)
+  same-map (lacking z t j r) x p = same-map r x p
+
+-- ---- the theorem
+
+pub record Shown (K : ℕ) (q : Bool) (l : Shape) (msg : List ℕ) (x : Value Span l) (n : ℕ) : Type 0 where
+  -- each text is the part of the message that is shown
+  pub bytes-are : read (byBytes q) l 0 msg ≡ ok (mapValue (slice msg) l x) n
+  -- and lies inside it; and every list is shorter than any bound on the message
+  pub inside-it : Every K (λ t. t .0 + t .1 ≤ length msg) l x
+
+pub shown : (K : ℕ) (q : Bool) (l : Shape) (msg : List ℕ) (x : Value Span l) (n : ℕ) → length msg < K → Eating l → read (byPlace q) l 0 msg ≡ ok x n → Shown K q l msg x n
+shown K q l msg x n small eats e = go (read (byBoth q) l 0 msg) refl (sym (by-place q l .law 0 msg) ∙ e)
+  where
+    found : (y : Value Text l) → read (byBoth q) l 0 msg ≡ ok y n → Every K (Part msg) l y → mapValue placeOf l y ≡ x → Shown K q l msg x n
+    found y d p z = record {
+      bytes-are = by-bytes q l .law 0 msg ∙ ap (over (mapValue bytesOf l)) d ∙ ap (λ (w : Value (List ℕ) l). ok w n) (sym (same-map K placeOf (slice msg) bytesOf (Part msg) (λ t h. h .1) l y p) ∙ ap (mapValue (slice msg) l) z);
+      inside-it = subst (λ (w : Value Span l). Every K (λ t. t .0 + t .1 ≤ length msg) l w) z (every-map K placeOf (Part msg) (λ t. t .0 + t .1 ≤ length msg) (λ t h. h .0) l y p);
+    }
+
+    go : (o : Res (Value Text l)) → read (byBoth q) l 0 msg ≡ o → over (mapValue placeOf l) o ≡ ok x n → Shown K q l msg x n
+    go (ok y m) d c =
+        let z : mapValue placeOf l y ≡ x = cc in
+        let w : m ≡ n = cc in
+        let d′ : read (byBoth q) l 0 msg ≡ ok y n = d ∙ ap (λ (k : ℕ). ok y k) w in
+        found y d′ (gives-read msg K small q l eats .law 0 msg y n (record { is = refl; fits = omega arith }) d′) z
+    go (bad w) d c = not-ok c

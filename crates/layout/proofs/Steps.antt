@@ -1,0 +1,169 @@
+-- One step of a reader: what follows from its parts, and what an accepted read says of them.
+use mathlib.Core.Bool.{Bool, false, not, true}
+use mathlib.Core.List.{List, [], _∷_}
+use mathlib.Core.Path.{_∙_, _≡_, ap, refl, subst, sym}
+use Prim.Native.Nat.{_+_, _<_, _≤_, suc, zero, ℕ}
+use native.Mathlib.Nat.{add-zero}
+use native.Mathlib.Omega.{arith}
+use lib.Arith.{lt→nleb}
+use lib.Dec.{T, eqb, eqb→eq, leb, leb→le, nleb→lt}
+use lib.ListN.{drop, length, take}
+use Rattle.layout.specs.Reading.{Reader, Refusal, Res, bad, because, fail, give, many, more, next, ok, pair, pick, placed, primitive, raw, then}
+use Rattle.layout.specs.Primitives.{be, checked, int}
+use Rattle.layout.proofs.Tests.{is-false, of-le}
+use Rattle.layout.proofs.Local.{not-ok, raw-ok}
+
+pub then-ok : {A B : Type 0} (r : Reader A) (f : A → Reader B) (p : ℕ) (s : List ℕ) (x : A) (n : ℕ) → r p s ≡ ok x n → then r f p s ≡ more n (f x (p + n) (drop n s))
+unfolding then
+then-ok r f p s x n e = rw e
+
+pub then-bad : {A B : Type 0} (r : Reader A) (f : A → Reader B) (p : ℕ) (s : List ℕ) (e : Refusal) → r p s ≡ bad e → then r f p s ≡ bad e
+unfolding then
+then-bad r f p s e h = rw h
+
+pub raw-bad : (n p : ℕ) (s : List ℕ) → length s < n → raw n p s ≡ bad (because 3 p)
+unfolding raw
+raw-bad n p s h = rw (is-false (leb n (length s)) (lt→nleb n (length s) h))
+
+pub int-ok : (k p : ℕ) (s : List ℕ) → k ≤ length s → int k p s ≡ ok (be 0 (take k s)) k
+unfolding int give
+int-ok k p s h = then-ok (raw k) _ p s (take k s) k (raw-ok k p s h) ∙ ap (λ (n : ℕ). ok (be 0 (take k s)) n) (add-zero k)
+
+pub int-bad : (k p : ℕ) (s : List ℕ) → length s < k → int k p s ≡ bad (because 3 p)
+unfolding int
+int-bad k p s h = then-bad (raw k) _ p s (because 3 p) (raw-bad k p s h)
+
+-- ---- backward
+
+pub record Split {A B : Type 0} (r : Reader A) (f : A → Reader B) (p : ℕ) (s : List ℕ) (y : B) (m : ℕ) : Type 0 where
+  pub x : A
+  pub n : ℕ
+  pub k : ℕ
+  pub first : r p s ≡ ok x n
+  pub second : f x (p + n) (drop n s) ≡ ok y k
+  pub sum : m ≡ n + k
+
+pub split : {A B : Type 0} (r : Reader A) (f : A → Reader B) (p : ℕ) (s : List ℕ) (y : B) (m : ℕ) → then r f p s ≡ ok y m → Split r f p s y m
+unfolding then
+split {A} {B} r f p s y m e = go (r p s) refl e
+  where
+    inner : (x : A) (n : ℕ) → r p s ≡ ok x n → (o : Res B) → f x (p + n) (drop n s) ≡ o → more n o ≡ ok y m → Split r f p s y m
+    inner x n d (ok z k) c e = record { x = x; n = n; k = k; first = d; second = c ∙ cc; sum = cc }
+    inner x n d (bad w) c e = not-ok e
+
+    go : (o : Res A) → r p s ≡ o → next o f p s ≡ ok y m → Split r f p s y m
+    go (ok x n) d e = inner x n d (f x (p + n) (drop n s)) refl e
+    go (bad c) d e = not-ok e
+
+pub record Raw (n : ℕ) (s x : List ℕ) (m : ℕ) : Type 0 where
+  pub fits : n ≤ length s
+  pub is : x ≡ take n s
+  pub used : m ≡ n
+
+pub raw-inv : (n p : ℕ) (s x : List ℕ) (m : ℕ) → raw n p s ≡ ok x m → Raw n s x m
+raw-inv n p s x m h = go (leb n (length s)) refl
+  where
+    go : (t : Bool) → leb n (length s) ≡ t → Raw n s x m
+    go true d = let i = of-le n (length s) d in let g = raw-ok n p s i in record { fits = i; is = cc; used = cc }
+    go false d =
+        let g = raw-bad n p s (nleb→lt n (length s) (subst (λ (b : Bool). T (not b)) (sym d) tt)) in
+        let z : _≡_ {A = ℕ} 0 1 = cc in absurd (omega arith)
+
+pub record Number (k : ℕ) (s : List ℕ) (x n : ℕ) : Type 0 where
+  pub fits : k ≤ length s
+  pub is : x ≡ be 0 (take k s)
+  pub used : n ≡ k
+
+pub int-inv : (k p : ℕ) (s : List ℕ) (x n : ℕ) → int k p s ≡ ok x n → Number k s x n
+int-inv k p s x n e = go (leb k (length s)) refl
+  where
+    go : (b : Bool) → leb k (length s) ≡ b → Number k s x n
+    go true d = let h = leb→le k (length s) (subst T (sym d) tt) in let g = int-ok k p s h in record { fits = h; is = cc; used = cc }
+    go false d =
+        let h : length s < k = nleb→lt k (length s) (subst (λ (b : Bool). T (not b)) (sym d) tt) in
+        let g = int-bad k p s h in
+        let z : _≡_ {A = ℕ} 0 1 = cc in absurd (omega arith)
+
+-- ---- a loop that reads items: what is read so far, one more, and a refusal
+
+pub many-none : {A : Type 0} (r : Reader A) (p : ℕ) (s : List ℕ) → many 0 r p s ≡ ok [] 0
+unfolding many give
+many-none r p s = refl
+
+pub record Cons {A : Type 0} (r : Reader A) (i p : ℕ) (s : List ℕ) (ys : List A) (k : ℕ) : Type 0 where
+  pub x : A
+  pub n : ℕ
+  pub xs : List A
+  pub m : ℕ
+  pub first : r p s ≡ ok x n
+  pub rest : many i r (p + n) (drop n s) ≡ ok xs m
+  pub all : ys ≡ x ∷ xs
+  pub sum : k ≡ n + m
+
+pub many-uncons : {A : Type 0} (r : Reader A) (i p : ℕ) (s : List ℕ) (ys : List A) (k : ℕ) → many (suc i) r p s ≡ ok ys k → Cons r i p s ys k
+unfolding many give
+many-uncons r i p s ys k e =
+    let a = split r _ p s ys k e in
+    let b = split (many i r) _ (p + a .n) (drop (a .n) s) ys (a .k) (a .second) in
+    let c = b .second in
+    let z : 0 ≡ b .k = cc in
+    record { x = a .x; n = a .n; xs = b .x; m = b .n; first = a .first; rest = b .first; all = cc; sum = (let s1 = a .sum in let s2 = b .sum in omega arith) }
+
+-- ---- what an accepted read says of its parts
+
+pub primitive-inv : {A : Type 0} (r : Reader A) (p : ℕ) (s : List ℕ) (x : A) (n : ℕ) → primitive r p s ≡ ok x n → r p s ≡ ok x n
+unfolding primitive
+primitive-inv {A} r p s x n e = go (r p s) refl e
+  where
+    go : (o : Res A) → r p s ≡ o → placed p o ≡ ok x n → r p s ≡ ok x n
+    go (ok y m) d e = d ∙ e
+    go (bad c) d e = not-ok e
+
+pub length-many : {A : Type 0} (r : Reader A) (n p : ℕ) (s : List ℕ) (xs : List A) (k : ℕ) → many n r p s ≡ ok xs k → length xs ≡ n
+length-many r zero p s xs k e = let d = many-none r p s in let y : xs ≡ [] = cc in ap length y
+length-many r (suc n) p s xs k e = let c = many-uncons r n p s xs k e in ap length (c .all) ∙ ap suc (length-many r n _ _ (c .xs) (c .m) (c .rest))
+
+pub checked-some : (e : ℕ) (len : Reader ℕ) (p : ℕ) (s : List ℕ) (x n : ℕ) → checked false e len p s ≡ ok x n → eqb x 0 ≡ false
+unfolding checked pick give fail
+checked-some e len p s x n h =
+    let a = split len _ p s x n (primitive-inv _ p s x n h) in
+    go (a .x) (a .k) (p + a .n) (drop (a .n) s) (eqb (a .x) 0) refl (a .second)
+  where
+    go : (y k q : ℕ) (u : List ℕ) (b : Bool) → eqb y 0 ≡ b → pick b (pick false (give 0) (fail e)) (give y) q u ≡ ok x k → eqb x 0 ≡ false
+    go y k q u true d g = let z : _≡_ {A = ℕ} 0 1 = cc in absurd (omega arith)
+    go y k q u false d g = let w : y ≡ x = cc in ap (λ (m : ℕ). eqb m 0) (sym w) ∙ d
+
+pub record Pair {A B : Type 0} (r : Reader A) (q : Reader B) (p : ℕ) (s : List ℕ) (z : A × B) (m : ℕ) : Type 0 where
+  pub n : ℕ
+  pub k : ℕ
+  pub first : r p s ≡ ok (z .0) n
+  pub second : q (p + n) (drop n s) ≡ ok (z .1) k
+  pub sum : m ≡ n + k
+
+pub pair-inv : {A B : Type 0} (r : Reader A) (q : Reader B) (p : ℕ) (s : List ℕ) (z : A × B) (m : ℕ) → pair r q p s ≡ ok z m → Pair r q p s z m
+unfolding give pair
+pair-inv {A} {B} r q p s z m e =
+    let a = split r _ p s z m e in
+    let b = split q _ (p + a .n) (drop (a .n) s) z (a .k) (a .second) in
+    let d = b .second in
+    let w : (a .x, b .x) ≡ z = cc in
+    let v : 0 ≡ b .k = cc in
+    record {
+      n = a .n;
+      k = b .n;
+      first = a .first ∙ ap (λ (u : A × B). ok (u .0) (a .n)) w;
+      second = b .first ∙ ap (λ (u : A × B). ok (u .1) (b .n)) w;
+      sum = omega (arith, a .sum, b .sum);
+    }
+
+pub checked-inv : (b : Bool) (e : ℕ) (len : Reader ℕ) (p : ℕ) (s : List ℕ) (x n : ℕ) → checked b e len p s ≡ ok x n → len p s ≡ ok x n
+unfolding checked pick give fail
+checked-inv b e len p s x n h =
+    let a = split len _ p s x n (primitive-inv _ p s x n h) in
+    a .first ∙ go b (a .x) (a .k) (p + a .n) (drop (a .n) s) (a .n) (a .sum) (eqb (a .x) 0) refl (a .second)
+  where
+    go : (b : Bool) (y k q : ℕ) (u : List ℕ) (j : ℕ) → n ≡ j + k → (t : Bool) → eqb y 0 ≡ t → pick t (pick b (give 0) (fail e)) (give y) q u ≡ ok x k → ok y j ≡ ok x n
+    go true y k q u j i true d g = let w : 0 ≡ x = cc in let v : 0 ≡ k = cc in let z : y ≡ 0 = eqb→eq y 0 (subst T (sym d) tt) in let o : j ≡ n = omega arith in cc
+    go false y k q u j i true d g = let z : _≡_ {A = ℕ} 0 1 = cc in absurd (omega arith)
+    go true y k q u j i false d g = let w : y ≡ x = cc in let v : 0 ≡ k = cc in let o : j ≡ n = omega arith in cc
+    go false y k q u j i false d g = let w : y ≡ x = cc in let v : 0 ≡ k = cc in let o : j ≡ n = omega arith in cc

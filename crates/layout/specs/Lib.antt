@@ -1,0 +1,22 @@
+-- What Kafka's bodies are. A reader has to believe the files listed here, and nothing else; laws about them stand in proofs/.
+
+-- readers, and what they refuse
+pub mod Reading
+-- text by RFC 3629
+pub mod Utf8
+-- the primitives, read and written
+pub mod Primitives
+-- layouts as rows, their versions and values
+pub mod Rows
+-- the one reader and the one writer of all layouts
+pub mod Read
+pub mod Write
+-- values as rows of cells in lent tables, and which tables can be written
+pub mod Tables
+-- the whole reply of every call
+pub mod Answers
+-- the rows of each message
+pub mod Messages
+-- version agreement and address lookup
+pub mod Agreement
+pub mod Lookup

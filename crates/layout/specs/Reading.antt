@@ -1,0 +1,75 @@
+-- Readers, and why they refuse. A reader is given the place where it stands in the message and the bytes from there on:
+-- the rest that the reader before it left. It gives a value and the number of bytes used, or it refuses. Assumes nothing.
+use mathlib.Core.Bool.{Bool, true, false, cond}
+use mathlib.Core.List.{List, [], _∷_}
+use Prim.Native.Nat.{ℕ, zero, suc, _+_}
+use lib.ListN.{length, take, drop}
+use lib.Dec.{leb}
+
+-- a number of docs/RULES.md, a place in the message, and for 10 the rows or bytes needed
+pub record Refusal : Type 0 where
+  pub number : ℕ
+  pub place : ℕ
+  pub need : ℕ
+
+abbrev pub because : ℕ → ℕ → Refusal
+because e p = record { number = e; place = p; need = 0 }
+
+pub data Res (A : Type 0) : Type 0 where
+  ok : A → ℕ → Res A
+  bad : Refusal → Res A
+
+abbrev pub Reader : Type 0 → Type 0
+Reader A = ℕ → List ℕ → Res A
+
+-- n bytes were used before
+abbrev pub more : {A : Type 0} → ℕ → Res A → Res A
+more n (ok x m) = ok x (n + m)
+more n (bad e) = bad e
+
+abbrev pub next : {A B : Type 0} → Res A → (A → Reader B) → ℕ → List ℕ → Res B
+next (ok x n) f p s = more n (f x (p + n) (drop n s))
+next (bad e) f p s = bad e
+
+-- one reader, and then one that may look at what the first gave
+unfoldable pub then : {A B : Type 0} → Reader A → (A → Reader B) → Reader B
+then r f p s = next (r p s) f p s
+
+unfoldable pub give : {A : Type 0} → A → Reader A
+give x p s = ok x 0
+
+unfoldable pub fail : {A : Type 0} → ℕ → Reader A
+fail e p s = bad (because e p)
+
+unfoldable pub pick : {A : Type 0} → Bool → Reader A → Reader A → Reader A
+pick true r q = r
+pick false r q = q
+
+-- a reader that is told where it stands
+unfoldable pub here : {A : Type 0} → (ℕ → Reader A) → Reader A
+here r p s = r p p s
+
+abbrev pub placed : {A : Type 0} → ℕ → Res A → Res A
+placed p (ok x n) = ok x n
+placed p (bad e) = bad (because (e .number) p)
+
+-- a primitive: whatever it refuses, it refuses at its own start
+unfoldable pub primitive : {A : Type 0} → Reader A → Reader A
+primitive r p s = placed p (r p s)
+
+-- n bytes
+unfoldable pub raw : ℕ → Reader (List ℕ)
+raw n p s = cond (leb n (length s)) (ok (take n s) n) (bad (because 3 p))
+
+unfoldable pub pair : {A B : Type 0} → Reader A → Reader B → Reader (A × B)
+pair r q = then r (λ x. then q (λ y. give (x, y)))
+
+-- n times the same
+unfoldable pub many : {A : Type 0} → ℕ → Reader A → Reader (List A)
+many zero r = give []
+many (suc n) r = then r (λ x. then (many n r) (λ xs. give (x ∷ xs)))
+
+-- n times, each on what the one before it left
+unfoldable pub loop : {S : Type 0} → ℕ → (S → Reader S) → S → Reader S
+loop zero r st = give st
+loop (suc n) r st = then (r st) (λ st′. loop n r st′)
