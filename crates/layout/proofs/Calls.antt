@@ -16,7 +16,7 @@ use Rattle.layout.specs.Primitives.{minus}
 use Rattle.layout.specs.Rows.{Shape}
 use Rattle.layout.specs.Write.{fault}
 use Rattle.layout.specs.Tables.{Tables, append, good, readRows}
-use Rattle.layout.specs.Answers.{Answer, Message, accepted, body, ended, faultless, judged, laid, made, meant, most, needed, prefixRead, readAnswer, refused, roomy, seen, shape, stored, widths, writeAnswer}
+use Rattle.layout.specs.Answers.{Answer, Message, accepted, body, ended, offered, judged, laid, made, meant, most, needed, prefixRead, readAnswer, refused, roomy, seen, shape, stored, widths, writeAnswer}
 use Rattle.layout.proofs.Contents.{Holds, rows-needed, rows-wide, rowsIn, tables-hold}
 use Rattle.layout.proofs.Every.{Every}
 use Rattle.layout.proofs.Link.{link}
@@ -201,25 +201,38 @@ pub record Made (m : Message) (v : ℤ) (lent : List ℕ) (st : Tables) (bs : Li
   pub size-is : n ≡ length bs
   pub short : length bs ≤ most
 
+-- bytes that are offered have no fault and are not too many
+pub record Offered (f : ℕ) (b bs : List ℕ) (n : ℕ) : Type 0 where
+  pub clean : f ≡ 0
+  pub bytes-are : bs ≡ b
+  pub size-is : n ≡ length bs
+  pub short : length bs ≤ most
+
+pub offered-inv : (f : ℕ) (b bs : List ℕ) (n : ℕ) → offered f b ≡ ok bs n → Offered f b bs n
+offered-inv (suc f) b bs n e = not-ok e
+offered-inv zero b bs n e = go _ (leb (length b) most) refl e
+  where
+    go : (c : Refusal) (y : Bool) → leb (length b) most ≡ y → cond y (ok b (length b)) (bad c) ≡ ok bs n → Offered 0 b bs n
+    go c true h e =
+        let z : b ≡ bs = cc in
+        let w : length b ≡ n = cc in
+        record { clean = refl; bytes-are = sym z; size-is = sym w ∙ ap length z; short = subst (λ (u : List ℕ). length u ≤ most) z (of-le _ _ h) }
+    go c false h e = not-ok e
+
 pub made-inv : (m : Message) (v : ℤ) (lent : List ℕ) (st : Tables) (bs : List ℕ) (n : ℕ) → made m v lent st ≡ ok bs n → Made m v lent st bs n
 unfolding made
 made-inv m (negsuc v) lent st bs n e = not-ok e
-made-inv m (pos v) lent st bs n e =
-    go _ _ _ (leb v (m .last)) refl (good (length lent) (m .tables) (shape m 0) st) refl (fault (shape m v) (meant lent st (shape m v))) refl (leb (length (body lent st (shape m v))) most) refl e
+made-inv m (pos v) lent st bs n e = go _ _ (leb v (m .last)) refl (good (length lent) (m .tables) (shape m 0) st) refl e
   where
-    b : List ℕ
-    b = body lent st (shape m v)
+    l : Shape
+    l = shape m v
 
-    go : (first second third : Refusal) (x : Bool) → leb v (m .last) ≡ x → (g : Bool) → good (length lent) (m .tables) (shape m 0) st ≡ g → (f : ℕ) → fault (shape m v) (meant lent st (shape m v)) ≡ f → (y : Bool) → leb (length b) most ≡ y →
-        cond x (cond g (faultless f (cond y (ok b (length b)) (bad third))) (bad second)) (bad first) ≡ ok bs n → Made m (pos v) lent st bs n
-    go e₁ e₂ e₃ true h true g zero f true y e =
-        let z : b ≡ bs = cc in
-        let w : length b ≡ n = cc in
-        record { version = v; is = refl; known = of-le _ _ h; good-tables = g; clean = f; bytes-are = sym z; size-is = sym w ∙ ap length z; short = subst (λ (u : List ℕ). length u ≤ most) z (of-le _ _ y) }
-    go e₁ e₂ e₃ true h true g zero f false y e = not-ok e
-    go e₁ e₂ e₃ true h true g (suc c) f y′ y e = not-ok e
-    go e₁ e₂ e₃ true h false g f c y′ y e = not-ok e
-    go e₁ e₂ e₃ false h g′ g f c y′ y e = not-ok e
+    go : (first second : Refusal) (x : Bool) → leb v (m .last) ≡ x → (g : Bool) → good (length lent) (m .tables) (shape m 0) st ≡ g → cond x (cond g (offered (fault l (meant lent st l)) (body lent st l)) (bad second)) (bad first) ≡ ok bs n → Made m (pos v) lent st bs n
+    go e₁ e₂ true h true g e =
+        let o = offered-inv (fault l (meant lent st l)) (body lent st l) bs n e in
+        record { version = v; is = refl; known = of-le _ _ h; good-tables = g; clean = o .clean; bytes-are = o .bytes-are; size-is = o .size-is; short = o .short }
+    go e₁ e₂ true h false g e = not-ok e
+    go e₁ e₂ false h y g e = not-ok e
 
 pub record Wrote (m : Message) (v : ℤ) (lent : List ℕ) (st : Tables) (out : List ℕ) (n : ℕ) (after : List ℕ) : Type 0 where
   pub bs : List ℕ

@@ -13,7 +13,7 @@ use Rattle.layout.specs.Rows.{Basic, at, blob, end, field, standing, sta
 use Rattle.layout.specs.Read.{readBasic, readBlob, readText}
 use Rattle.layout.specs.Write.{basicFault, each, fault, firstOf, or, sizedFault, unless, write, writeBasic}
 use Rattle.layout.specs.Tables.{Tables, absentCells, addsUp, all, append, arrays, asked, basicOf, cells, chosen, chunks, count, countCell, firstRow, from, good, goodCells, goodCount, goodRow, goodSpan, inside, itemsOf, kindIn, kindOf, pop, readRows, rowWidth, rowsAt, rowsOf, slice, span, spanOf, sum, times, valueOf, width}
-use Rattle.layout.specs.Answers.{Answer, accepted, body, laid, made, meant, needed, prefixRead, readAnswer, refused, seen, shape, wholeRead, widths, writeAnswer}
+use Rattle.layout.specs.Answers.{Answer, accepted, body, laid, made, meant, needed, prefixRead, readAnswer, refused, seen, shape, tagsAlone, wholeRead, widths, writeAnswer}
 use Rattle.layout.specs.Agreement as Agreement
 use Rattle.layout.specs.Lookup as Lookup
 use Rattle.layout.specs.Messages.ApiVersions as Api
@@ -181,6 +181,10 @@ others =
     (writes (writeAnswer Api.response (pos 0) [] ((0 ∷ minus ∷ 0 ∷ 0 ∷ minus ∷ []) ∷ [] ∷ [] ∷ []) out), no 13 0 0 (out ∷ [])) ∷
     (writes (writeAnswer Api.response (pos 0) [] ((0 ∷ 0 ∷ 0 ∷ 0 ∷ (minus - 1) ∷ []) ∷ [] ∷ [] ∷ []) out), no 13 0 0 (out ∷ [])) ∷
     (writes (writeAnswer Api.response (pos 0) [] ((70000 ∷ 0 ∷ 0 ∷ 0 ∷ minus ∷ []) ∷ [] ∷ [] ∷ []) out), no 11 0 0 (out ∷ [])) ∷
+    -- tagged fields by themselves: repeats kept; data cut short is placed at its data length; no room, and the need
+    (reads (prefixRead tagsAlone (pos 0) (replicate 7 7 ∷ []) (hex 7 0x02_05_00_05_01_41_FF)), told (2 ∷ []) 6 ((5 ∷ 3 ∷ 0 ∷ 5 ∷ 5 ∷ 1 ∷ 7 ∷ []) ∷ [])) ∷
+    (reads (prefixRead tagsAlone (pos 0) (replicate 7 7 ∷ []) (hex 4 0x01_05_02_41)), no 3 2 0 (replicate 7 7 ∷ [])) ∷
+    (reads (prefixRead tagsAlone (pos 0) (replicate 5 7 ∷ []) (hex 6 0x02_05_00_05_01_41)), no 10 0 2 (replicate 5 7 ∷ [])) ∷
     -- text at the edges of RFC 3629; contents cut short are 3, ill-formed or not; compact bytes of length 0 are 6
     (alone (text (fixed w16 never)) (hex 6 0x0004_F48FBFBF), showed (2 ∷ 4 ∷ []) 6) ∷
     (alone (text (fixed w16 never)) (hex 6 0x0004_F4908080), stopped 7 0 0) ∷

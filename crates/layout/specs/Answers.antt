@@ -7,8 +7,8 @@ use Prim.Native.Nat.{ℕ, zero, suc, _/_}
 use lib.ListN.{length, drop, getD, replicate}
 use lib.Dec.{leb, ltb, eqb}
 use lib.IntN.{ℤ, pos, negsuc}
-use Rattle.layout.specs.Reading.{Refusal, because, Res, ok, bad}
-use Rattle.layout.specs.Rows.{Shape, Layout, at, Value}
+use Rattle.layout.specs.Reading.{Refusal, because, Res, ok, bad, Reader}
+use Rattle.layout.specs.Rows.{Shape, Layout, done, tagged, at, Value}
 use Rattle.layout.specs.Write.{write, fault}
 use Rattle.layout.specs.Tables.{Tables, readRows, append, valueOf, rowWidth, kindOf, from, good}
 
@@ -48,12 +48,13 @@ ended w z (bad e) = bad e
 ended false z (ok x n) = ok x n
 ended true z (ok x n) = cond (ltb n z) (bad (because 9 n)) (ok x n)
 
-abbrev pub none-yet : Message → Tables
-none-yet m = replicate (suc (m .tables)) []
+-- tables with no rows yet, the body's own among them
+abbrev pub noRows : Message → Tables
+noRows m = replicate (suc (m .tables)) []
 
 -- what is made of the message s before any room is looked at: the rows of all tables. w: a whole read
 unfoldable pub seen : Bool → Message → ℤ → List ℕ → Res Tables
-seen w m v s = atVersion m v (λ l. limited (length s) (ended w (length s) (readRows w append l 0 (none-yet m) 0 s)))
+seen w m v s = atVersion m v (λ l. limited (length s) (ended w (length s) (readRows w append l 0 (noRows m) 0 s)))
 
 -- the row widths of the lent tables, the same at all versions
 unfoldable pub widths : Message → List ℕ
@@ -100,23 +101,18 @@ meant lent st l = valueOf lent l 0 st .0
 unfoldable pub body : List ℕ → Tables → Shape → List ℕ
 body lent st l = write l (meant lent st l)
 
--- 7 and 11
-abbrev pub faultless : {A : Type 0} → ℕ → Res A → Res A
-faultless zero r = r
-faultless (suc e) r = bad (because (suc e) 0)
+-- 7 and 11, where the bytes have a fault; then 2. Between them stands 12, which has no case: a seven-bit group always fits a byte
+abbrev pub offered : ℕ → List ℕ → Res (List ℕ)
+offered zero bs = limited (length bs) (ok bs (length bs))
+offered (suc e) bs = bad (because (suc e) 0)
 
 -- 13, the same at all versions
 abbrev pub judgedGood : {A : Type 0} → Message → List ℕ → Tables → Res A → Res A
 judgedGood m lent st r = cond (good (length lent) (m .tables) (shape m 0) st) r (bad (because 13 0))
 
--- the bytes of the row and tables st, whose texts are parts of `lent`, before any room is looked at.
--- 12 stands between 11 and 2 and has no case: a seven-bit group always fits a byte
+-- the bytes of the row and tables st, whose texts are parts of `lent`, before any room is looked at
 unfoldable pub made : Message → ℤ → List ℕ → Tables → Res (List ℕ)
-made m v lent st =
-    atVersion m v (λ l.
-    judgedGood m lent st (
-    faultless (fault l (meant lent st l)) (
-    limited (length (body lent st l)) (ok (body lent st l) (length (body lent st l))))))
+made m v lent st = atVersion m v (λ l. judgedGood m lent st (offered (fault l (meant lent st l)) (body lent st l)))
 
 -- 10
 abbrev pub stored : List ℕ → Res (List ℕ) → Answer × List ℕ
@@ -126,3 +122,17 @@ stored out (ok bs n) = cond (leb n (length out)) (accepted [] n, bs ++ drop n ou
 -- the answer at version v, with no row to show, and the output behind it
 unfoldable pub writeAnswer : Message → ℤ → List ℕ → Tables → List ℕ → Answer × List ℕ
 writeAnswer m v lent st out = stored out (made m v lent st)
+
+-- ---- a primitive called by itself: no version, and only tagged fields fill a table
+
+-- read: 2 first, and then from place 0
+unfoldable pub alone : {A : Type 0} → Reader A → List ℕ → Res A
+alone r s = limited (length s) (r 0 s)
+
+-- written: a field's value, or bytes with a fault (0 for none)
+unfoldable pub writeAlone : ℕ → List ℕ → List ℕ → Answer × List ℕ
+writeAlone e bs out = stored out (offered e bs)
+
+-- tagged fields: own row, the number of tags; table 1, tags (tag, start, length)
+abbrev pub tagsAlone : Message
+tagsAlone = record { layout = tagged 0 0 1 done; last = 0; flexible = 0; tables = 1 }
