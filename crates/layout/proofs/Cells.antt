@@ -22,19 +22,25 @@ bytes-mod (suc k) n q =
     let m : (n + q * 256 ^ suc k) % 256 ≡ n % 256 = omega (arith, e) in
     λ i. (ap (bytes k) d ∙ bytes-mod k (n / 256) q) i ++ (m i ∷ [])
 
--- what differs between the widths, in numbers: half the patterns are negative, and `above` is what sign extension adds
+-- what sign extension adds, in patterns of the width
+abbrev pub above : Width → ℕ
+above w8 = 2 ^ 56 - 1
+above w16 = 2 ^ 48 - 1
+above w32 = 2 ^ 32 - 1
+above w64 = 0
+
+-- what differs between the widths, in numbers
 pub record Powers (w : Width) : Type 0 where
   pub least : 1 ≤ 2 ^ (bits w - 1)
   pub half : 2 ^ bits w ≡ 2 * 2 ^ (bits w - 1)
   pub power : 256 ^ size w ≡ 2 ^ bits w
-  pub above : ℕ
-  pub whole : 2 ^ 64 ≡ 2 ^ bits w + above * 256 ^ size w
+  pub whole : 2 ^ 64 ≡ 2 ^ bits w + above w * 256 ^ size w
 
 pub powers : (w : Width) → Powers w
-powers w8 = record { least = lit≤ tt; half = refl; power = refl; above = 2 ^ 56 - 1; whole = refl }
-powers w16 = record { least = lit≤ tt; half = refl; power = refl; above = 2 ^ 48 - 1; whole = refl }
-powers w32 = record { least = lit≤ tt; half = refl; power = refl; above = 2 ^ 32 - 1; whole = refl }
-powers w64 = record { least = lit≤ tt; half = refl; power = refl; above = 0; whole = refl }
+powers w8 = record { least = lit≤ tt; half = refl; power = refl; whole = refl }
+powers w16 = record { least = lit≤ tt; half = refl; power = refl; whole = refl }
+powers w32 = record { least = lit≤ tt; half = refl; power = refl; whole = refl }
+powers w64 = record { least = lit≤ tt; half = refl; power = refl; whole = refl }
 
 module _ (w : Width) where
   -- the cell of a pattern
@@ -45,12 +51,12 @@ module _ (w : Width) where
   unfolding signed
   extend-low n h = rw (lt-true n (2 ^ (bits w - 1)) h)
 
-  pub extend-high : (n : ℕ) → 2 ^ (bits w - 1) ≤ n → n < 2 ^ bits w → extend n ≡ n + powers w .above * 256 ^ size w
+  pub extend-high : (n : ℕ) → 2 ^ (bits w - 1) ≤ n → n < 2 ^ bits w → extend n ≡ n + above w * 256 ^ size w
   unfolding signed
   extend-high n h g = rw (lt-false n (2 ^ (bits w - 1)) h) (let e = powers w .whole in omega arith)
 
   -- either way
-  extend-case : (P : ℕ → Type 0) (n : ℕ) → n < 2 ^ bits w → (n < 2 ^ (bits w - 1) → P n) → (2 ^ (bits w - 1) ≤ n → P (n + powers w .above * 256 ^ size w)) → P (extend n)
+  extend-case : (P : ℕ → Type 0) (n : ℕ) → n < 2 ^ bits w → (n < 2 ^ (bits w - 1) → P n) → (2 ^ (bits w - 1) ≤ n → P (n + above w * 256 ^ size w)) → P (extend n)
   extend-case P n h low high = go (ltb n (2 ^ (bits w - 1))) refl
     where
       go : (b : Bool) → ltb n (2 ^ (bits w - 1)) ≡ b → P (extend n)
@@ -58,17 +64,17 @@ module _ (w : Width) where
       go false e = rw (extend-high n (of-ge _ _ e) h) (high (of-ge _ _ e))
 
   pub extend-bytes : (n : ℕ) → n < 2 ^ bits w → bytes (size w) (extend n) ≡ bytes (size w) n
-  extend-bytes n h = extend-case (λ c. bytes (size w) c ≡ bytes (size w) n) n h (λ g. refl) (λ g. bytes-mod (size w) n (powers w .above))
+  extend-bytes n h = extend-case (λ c. bytes (size w) c ≡ bytes (size w) n) n h (λ g. refl) (λ g. bytes-mod (size w) n (above w))
 
   holds-low : (n : ℕ) → n < 2 ^ (bits w - 1) → holds w n ≡ true
   unfolding holds
   holds-low n h = rw (lt-true n (2 ^ (bits w - 1)) h)
 
-  holds-high : (n : ℕ) → 2 ^ (bits w - 1) ≤ n → n < 2 ^ bits w → holds w (n + powers w .above * 256 ^ size w) ≡ true
+  holds-high : (n : ℕ) → 2 ^ (bits w - 1) ≤ n → n < 2 ^ bits w → holds w (n + above w * 256 ^ size w) ≡ true
   unfolding holds
   holds-high n h g =
       let p = powers w in
-      let c = n + p .above * 256 ^ size w in
+      let c = n + above w * 256 ^ size w in
       rw (lt-false c (2 ^ (bits w - 1)) (omega arith), le-true (2 ^ 64 - 2 ^ (bits w - 1)) c (omega (arith, p .whole, p .half))) (lt-true c (2 ^ 64) (omega (arith, p .whole)))
 
   pub extend-holds : (n : ℕ) → n < 2 ^ bits w → holds w (extend n) ≡ true
@@ -106,12 +112,12 @@ pattern w c h = go (ltb c (2 ^ (bits w - 1))) refl (leb (2 ^ 64 - 2 ^ (bits w - 
     low i = let p = powers w in record { n = c; small = omega (arith, p .half, p .power); is = extend-low w c i; same = refl }
 
     -- n extends to c
-    high : (n : ℕ) → c ≡ n + powers w .above * 256 ^ size w → 2 ^ (bits w - 1) ≤ n → n < 2 ^ bits w → Pattern w c
+    high : (n : ℕ) → c ≡ n + above w * 256 ^ size w → 2 ^ (bits w - 1) ≤ n → n < 2 ^ bits w → Pattern w c
     high n e i j = record {
       n = n;
       small = omega (arith, powers w .power);
       is = extend-high w n i j ∙ sym e;
-      same = ap (bytes (size w)) e ∙ bytes-mod (size w) n (powers w .above);
+      same = ap (bytes (size w)) e ∙ bytes-mod (size w) n (above w);
     }
 
     go : (a : Bool) → ltb c (2 ^ (bits w - 1)) ≡ a → (b : Bool) → leb (2 ^ 64 - 2 ^ (bits w - 1)) c ≡ b → cond a true (cond b (ltb c (2 ^ 64)) false) ≡ true → Pattern w c
@@ -120,7 +126,7 @@ pattern w c h = go (ltb c (2 ^ (bits w - 1))) refl (leb (2 ^ 64 - 2 ^ (bits w - 
         let i : 2 ^ 64 - 2 ^ (bits w - 1) ≤ c = of-le _ _ e in
         let j : c < 2 ^ 64 = of-lt _ _ h in
         let p = powers w in
-        high (c - p .above * 256 ^ size w) (omega (arith, p .whole, p .half)) (omega (arith, p .whole, p .half)) (omega (arith, p .whole, p .half))
+        high (c - above w * 256 ^ size w) (omega (arith, p .whole, p .half)) (omega (arith, p .whole, p .half)) (omega (arith, p .whole, p .half))
     go false d false e h = let z : _≡_ {A = ℕ} 0 1 = cc in absurd (omega arith)
 
 -- the compiler's widths, and its signed numbers: the same

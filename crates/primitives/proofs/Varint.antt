@@ -1,0 +1,112 @@
+-- The loop of an unsigned varint: where it stands, and what each way out and each turn gives. b is the byte at p.
+use mathlib.Core.List.{List, []}
+use mathlib.Core.Path.{_∙_, _≡_, ap, refl, subst, sym}
+use Prim.Native.Nat.{_%_, _*_, _+_, _-_, _<_, _^_, _≤_, suc, zero, ℕ}
+use native.Mathlib.Nat.{add-zero, mul-assoc, mul-le-mul-left, mul-le-mul-right, mul-one, one-le-pow, pow-succ', pow-zero, zero-add}
+use native.Mathlib.Omega.{arith}
+use lib.ListN.{drop, getD, length, length-drop, take}
+use lib.Seq.{drop-drop, getD-drop}
+use Rattle.layout.specs.Reading.{Reader, Refusal, Res, bad, because, fail, give, more, ok, pick, placed, primitive, then}
+use Rattle.layout.specs.Primitives.{be, groups, int, unsigned}
+use Rattle.layout.proofs.Maps.{more-more}
+use Rattle.layout.proofs.Steps.{int-bad, int-ok, then-bad, then-ok}
+use Rattle.layout.proofs.Tests.{lt-false, lt-true}
+use Rattle.primitives.proofs.Cells.{be-1}
+
+-- k more bytes may follow before the tenth; weight and value as `groups` has them; what is left of it from p on is what was asked
+pub record Along (s : List ℕ) (k weight value p : ℕ) : Type 0 where
+  pub whole : weight * 128 ^ k ≡ 2 ^ 63
+  pub below : value < weight
+  pub same : unsigned 0 s ≡ placed 0 (more p (groups k weight value p (drop p s)))
+
+more-none : {A : Type 0} (o : Res A) → o ≡ more 0 o
+more-none (ok x n) = ap (λ (m : ℕ). ok x m) (sym (zero-add n))
+more-none (bad e) = refl
+
+pub start : (s : List ℕ) → Along s 9 1 0 0
+unfolding unsigned primitive
+start s = record { whole = refl; below = omega arith; same = ap (placed 0) (more-none (groups 9 1 0 0 s)) }
+
+module _ (s : List ℕ) (weight value p : ℕ) where
+  -- the bytes end
+  pub short : (k : ℕ) (e : Refusal) → e ≡ because 3 0 → Along s k weight value p → length s ≤ p → bad e ≡ unsigned 0 s
+  unfolding groups
+  short zero e i a l = ap bad i ∙ sym (a .same ∙ ap (λ o. placed 0 (more p o)) (then-bad (int 1) _ p (drop p s) (because 3 p) (int-bad 1 p (drop p s) (omega (arith, length-drop p s)))))
+  short (suc k) e i a l = ap bad i ∙ sym (a .same ∙ ap (λ o. placed 0 (more p o)) (then-bad (int 1) _ p (drop p s) (because 3 p) (int-bad 1 p (drop p s) (omega (arith, length-drop p s)))))
+
+  -- the weight times 128 is a weight
+  pub narrow : (k : ℕ) → 0 < k → Along s k weight value p → weight * 128 ≤ 2 ^ 63
+  narrow zero h a = absurd (omega arith)
+  narrow (suc k) h a =
+      let e : (weight * 128) * 128 ^ k ≡ 2 ^ 63 = mul-assoc weight 128 (128 ^ k) ∙ ap (λ (n : ℕ). weight * n) (sym (pow-succ' 128 k)) ∙ a .whole in
+      let g : weight * 128 * 1 ≤ weight * 128 * 128 ^ k = mul-le-mul-left (weight * 128) (one-le-pow k 128 (omega arith)) in
+      omega arith
+
+  -- no sum and no product wraps
+  pub room : (k : ℕ) → 0 < k → Along s k weight value p → (d : ℕ) → d < 128 → (d * weight < 2 ^ 64) × (value + d * weight < 2 ^ 64)
+  room k h a d l =
+      let g : d * weight ≤ 127 * weight = mul-le-mul-right weight (omega arith) in
+      let n : weight * 128 ≤ 2 ^ 63 = narrow k h a in
+      let m = a .below in
+      (omega arith, omega arith)
+
+  pub room-10 : (k : ℕ) → k ≤ 0 → Along s k weight value p → (d : ℕ) → d < 2 → (d * weight < 2 ^ 64) × (value + d * weight < 2 ^ 64)
+  room-10 zero h a d l =
+      let g : d * weight ≤ 1 * weight = mul-le-mul-right weight (omega arith) in
+      let n : weight ≡ 2 ^ 63 = sym (ap (λ (n : ℕ). weight * n) (pow-zero 128) ∙ mul-one weight) ∙ a .whole in
+      let m = a .below in
+      (omega arith, omega arith)
+  room-10 (suc k) h a d l = absurd (omega arith)
+
+  module _ (b : ℕ) (e : b ≡ getD s p 0) (i : p < length s) where
+    -- the byte at p is read
+    byte : {A : Type 0} (f : ℕ → Reader A) → then (int 1) f p (drop p s) ≡ more 1 (f b (p + 1) (drop (p + 1) s))
+    byte f =
+        let l : 1 ≤ length (drop p s) = omega (arith, length-drop p s) in
+        let g : b ≡ be 0 (take 1 (drop p s)) = be-1 (drop p s) b l (e ∙ sym (getD-drop p s 0 0 ∙ ap (λ (n : ℕ). getD s n 0) (add-zero p))) in
+        then-ok (int 1) f p (drop p s) (be 0 (take 1 (drop p s))) 1 (int-ok 1 p (drop p s) l) ∙ (λ t. more 1 (f (sym g t) (p + 1) (drop-drop 1 p s t)))
+
+    low-group : (k : ℕ) → b < 128 → groups (suc k) weight value p (drop p s) ≡ ok (value + b * weight) 1
+    unfolding groups pick give
+    low-group k l = byte _ ∙ rw (lt-true b 128 l)
+
+    high-group : (k : ℕ) → 128 ≤ b → groups (suc k) weight value p (drop p s) ≡ more 1 (groups k (weight * 128) (value + b % 128 * weight) (p + 1) (drop (p + 1) s))
+    unfolding groups pick
+    high-group k l = byte _ ∙ rw (lt-false b 128 l)
+
+    low-tenth : b < 128 → groups 0 weight value p (drop p s) ≡ ok (value + b % 2 * weight) 1
+    unfolding groups pick give
+    low-tenth l = byte _ ∙ rw (lt-true b 128 l)
+
+    high-tenth : 128 ≤ b → groups 0 weight value p (drop p s) ≡ bad (because 5 (p + 1))
+    unfolding groups pick fail
+    high-tenth l = byte _ ∙ rw (lt-false b 128 l)
+
+    -- what is left is o, so what was asked is o behind p bytes
+    asked : (o : Res ℕ) (k : ℕ) → Along s k weight value p → groups k weight value p (drop p s) ≡ o → placed 0 (more p o) ≡ unsigned 0 s
+    asked o k a h = sym (a .same ∙ ap (λ (u : Res ℕ). placed 0 (more p u)) h)
+
+    pub ended : (k : ℕ) → 0 < k → Along s k weight value p → b < 128 → ok (value + b * weight) (p + 1) ≡ unsigned 0 s
+    ended zero h a l = absurd (omega arith)
+    ended (suc k) h a l = asked _ (suc k) a (low-group k l)
+
+    pub tenth : (k : ℕ) → k ≤ 0 → Along s k weight value p → b < 128 → ok (value + b % 2 * weight) (p + 1) ≡ unsigned 0 s
+    tenth zero h a l = asked _ 0 a (low-tenth l)
+    tenth (suc k) h a l = absurd (omega arith)
+
+    pub endless : (k : ℕ) (c : Refusal) → c ≡ because 5 0 → k ≤ 0 → Along s k weight value p → 128 ≤ b → bad c ≡ unsigned 0 s
+    endless zero c j h a l = ap bad j ∙ asked _ 0 a (high-tenth l)
+    endless (suc k) c j h a l = absurd (omega arith)
+
+    next-at : (k : ℕ) → Along s (suc k) weight value p → 128 ≤ b → Along s k (weight * 128) (value + b % 128 * weight) (p + 1)
+    next-at k a l =
+        let g : b % 128 * weight ≤ 127 * weight = mul-le-mul-right weight (omega arith) in
+        record {
+          whole = mul-assoc weight 128 (128 ^ k) ∙ ap (λ (n : ℕ). weight * n) (sym (pow-succ' 128 k)) ∙ a .whole;
+          below = omega (arith, a .below);
+          same = sym (asked (more 1 (groups k (weight * 128) (value + b % 128 * weight) (p + 1) (drop (p + 1) s))) (suc k) a (high-group k l)) ∙ ap (placed 0) (more-more p 1 (groups k (weight * 128) (value + b % 128 * weight) (p + 1) (drop (p + 1) s)));
+        }
+
+    pub again : (k : ℕ) → 0 < k → Along s k weight value p → 128 ≤ b → Along s (k - 1) (weight * 128) (value + b % 128 * weight) (p + 1)
+    again zero h a l = absurd (omega arith)
+    again (suc k) h a l = subst (λ (j : ℕ). Along s j (weight * 128) (value + b % 128 * weight) (p + 1)) (omega arith) (next-at k a l)

@@ -1,0 +1,33 @@
+use Rattle.layout.specs.Primitives.{integer, w16}
+use Rattle.primitives.proofs.Alone.{alone-long, integer-is}
+use borrow.Author.Needs.{needs}
+use Rattle.primitives.proofs.read.int16.Statement.{statement}
+use Rattle.primitives.proofs.read.int16.Tie as tie
+use Rattle.primitives.proofs.read.int16.Reads as reads
+use Rattle.primitives.proofs.read.int16.Lts as lts
+use Rattle.primitives.proofs.at.Reads as at-reads
+use Rattle.primitives.proofs.read.shown.Reads as shown-reads
+use Rattle.primitives.proofs.step.int16.Reads as int16-reads
+
+-- src/read.rt:47:33
+at-requires : tie.Need-at-requires
+at-requires c κs = search needs
+
+-- src/read.rt:47:9
+returns : tie.Need-returns
+returns c = alone-long (integer w16) _ _ (c .at .ensures) (search needs)
+
+-- src/read.rt:49:11
+int16-requires : tie.Need-int16-requires
+int16-requires c κs = search needs
+
+-- src/read.rt:49:5
+shown-requires : tie.Need-shown-requires
+shown-requires c κs = search needs
+
+-- src/read.rt:43:1
+returns-2 : tie.Need-returns-2
+returns-2 c = integer-is w16 _ (c .before .int16 .result) (c .shown .result) (c .before .before .before .shared-slice-known .given) (c .before .int16 .ensures) (c .shown .ensures) (search needs)
+
+pub int16-spec : {M : Type 1} → statement M
+int16-spec = tie.close (tie.spec at-requires returns int16-requires shown-requires returns-2)

@@ -1,0 +1,33 @@
+use Rattle.layout.specs.Primitives.{integer, w64}
+use Rattle.primitives.proofs.Alone.{alone-long, integer-is}
+use borrow.Author.Needs.{needs}
+use Rattle.primitives.proofs.read.int64.Statement.{statement}
+use Rattle.primitives.proofs.read.int64.Tie as tie
+use Rattle.primitives.proofs.read.int64.Reads as reads
+use Rattle.primitives.proofs.read.int64.Lts as lts
+use Rattle.primitives.proofs.at.Reads as at-reads
+use Rattle.primitives.proofs.read.shown.Reads as shown-reads
+use Rattle.primitives.proofs.step.int64.Reads as int64-reads
+
+-- src/read.rt:65:33
+at-requires : tie.Need-at-requires
+at-requires c κs = search needs
+
+-- src/read.rt:65:9
+returns : tie.Need-returns
+returns c = alone-long (integer w64) _ _ (c .at .ensures) (search needs)
+
+-- src/read.rt:67:11
+int64-requires : tie.Need-int64-requires
+int64-requires c κs = search needs
+
+-- src/read.rt:67:5
+shown-requires : tie.Need-shown-requires
+shown-requires c κs = search needs
+
+-- src/read.rt:61:1
+returns-2 : tie.Need-returns-2
+returns-2 c = integer-is w64 _ (c .before .int64 .result) (c .shown .result) (c .before .before .before .shared-slice-known .given) (c .before .int64 .ensures) (c .shown .ensures) (search needs)
+
+pub int64-spec : {M : Type 1} → statement M
+int64-spec = tie.close (tie.spec at-requires returns int64-requires shown-requires returns-2)

@@ -1,0 +1,28 @@
+use Rattle.layout.specs.Primitives.{unsigned}
+use Rattle.primitives.proofs.Alone.{alone-long, alone-is}
+use borrow.Author.Needs.{needs}
+use Rattle.primitives.proofs.read.unsigned_varint.Statement.{statement}
+use Rattle.primitives.proofs.read.unsigned_varint.Tie as tie
+use Rattle.primitives.proofs.read.unsigned_varint.Reads as reads
+use Rattle.primitives.proofs.read.unsigned_varint.Lts as lts
+use Rattle.primitives.proofs.at.Reads as at-reads
+use Rattle.primitives.proofs.step.unsigned_varint.Reads as unsigned-varint-reads
+
+-- src/read.rt:83:32
+at-requires : tie.Need-at-requires
+at-requires c κs = search needs
+
+-- src/read.rt:83:9
+returns : tie.Need-returns
+returns c = alone-long unsigned _ _ (c .at .ensures) (search needs)
+
+-- src/read.rt:85:5
+unsigned-varint-requires : tie.Need-unsigned-varint-requires
+unsigned-varint-requires c κs = search needs
+
+-- src/read.rt:79:1
+returns-2 : tie.Need-returns-2
+returns-2 c = alone-is unsigned _ (search needs) _ (c .«unsigned-varint» .ensures)
+
+pub unsigned-varint-spec : {M : Type 1} → statement M
+unsigned-varint-spec = tie.close (tie.spec at-requires returns unsigned-varint-requires returns-2)

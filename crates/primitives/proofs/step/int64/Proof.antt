@@ -1,0 +1,28 @@
+use Rattle.layout.specs.Primitives.{w64}
+use Rattle.primitives.proofs.Cells.{cell-short, cell-whole}
+use borrow.Author.Needs.{needs}
+use Rattle.primitives.proofs.step.int64.Statement.{statement}
+use Rattle.primitives.proofs.step.int64.Tie as tie
+use Rattle.primitives.proofs.step.int64.Reads as reads
+use Rattle.primitives.proofs.step.int64.Lts as lts
+use Rattle.primitives.proofs.at.Reads as at-reads
+use Rattle.primitives.proofs.step.eight.Reads as eight-reads
+
+-- src/step.rt:89:32
+at-requires : tie.Need-at-requires
+at-requires c κs = search needs
+
+-- src/step.rt:89:9
+returns : tie.Need-returns
+returns c = cell-short w64 _ _ (c .at .ensures) (search needs)
+
+-- src/step.rt:92:16
+eight-requires : tie.Need-eight-requires
+eight-requires c κs = search needs
+
+-- src/step.rt:85:1
+returns-2 : tie.Need-returns-2
+returns-2 c = cell-whole _ _ (search needs) (c .eight .ensures) (search needs)
+
+pub int64-spec : {M : Type 1} → statement M
+int64-spec = tie.close (tie.spec at-requires returns eight-requires returns-2)

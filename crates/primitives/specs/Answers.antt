@@ -1,0 +1,34 @@
+-- What the answers of the calls say in the definition's words: the number and values of docs/RULES.md for each case of each enum.
+use Prim.Native.Nat.{ℕ}
+use lib.IntN.{ℤ}
+use mathlib.Core.Bool.{Bool}
+use Rattle.layout.specs.Reading.{Res, bad, ok}
+use Rattle.layout.specs.Reading as Reading
+use Rattle.layout.specs.Primitives.{signed, w64}
+use Rattle.primitives.specs.declared.Flag.{Flag}
+use Rattle.primitives.specs.declared.Integer.{Integer}
+use Rattle.primitives.specs.declared.Number.{Number}
+use Rattle.primitives.specs.declared.Refusal.{Refusal}
+
+abbrev pub ofRefusal : Refusal → Reading.Refusal
+ofRefusal e = record { number = e .number; place = e .place; need = e .need }
+
+abbrev pub ofNumber : Number → Res ℕ
+ofNumber (Number.Took v n) = ok v n
+ofNumber (Number.Refused e) = bad (ofRefusal e)
+
+abbrev pub ofInteger : Integer → Res ℤ
+ofInteger (Integer.Took v n) = ok v n
+ofInteger (Integer.Refused e) = bad (ofRefusal e)
+
+abbrev pub ofFlag : Flag → Res Bool
+ofFlag (Flag.Took v n) = ok v n
+ofFlag (Flag.Refused e) = bad (ofRefusal e)
+
+-- the signed number that a cell shows, also in an answer
+abbrev pub shownOf : ℕ → ℤ
+shownOf c = signed w64 c
+
+abbrev pub ofShown : Number → Res ℤ
+ofShown (Number.Took c n) = ok (shownOf c) n
+ofShown (Number.Refused e) = bad (ofRefusal e)

@@ -1,0 +1,63 @@
+// Kafka's primitive types and tagged fields, read and written.
+// `step` reads one primitive at the front of what is left of a message; `read` has the calls, which judge the message's size first.
+ghost use mathlib.Core.Path.{_≡_};
+ghost use Rattle.layout.specs.Reading.{because};
+ghost use Rattle.primitives.specs.Answers.{ofRefusal};
+
+pub mod read;
+pub mod step;
+
+// The numbers of docs/RULES.md, section 10.
+pub const TOO_LONG: u8 = 2;
+
+pub const BYTES_END: u8 = 3;
+
+pub const LENGTH_BELOW: u8 = 4;
+
+pub const VARINT_CONTINUES: u8 = 5;
+
+pub const LENGTH_ZERO: u8 = 6;
+
+pub const NOT_TEXT: u8 = 7;
+
+pub const NO_ROOM: u8 = 10;
+
+pub const TOO_WIDE: u8 = 11;
+
+// No message and no written body has more bytes.
+pub const MOST: usize = 1048576;
+
+// Why a call refuses: the number, the place in the message, and for NO_ROOM the rows or bytes needed.
+pub struct Refusal {
+    pub number: u8,
+    pub place: usize,
+    pub need: usize,
+}
+
+// A number that is not negative, or a cell; and the bytes used.
+pub enum Number {
+    Took { value: u64, used: usize },
+    Refused(Refusal),
+}
+
+// A signed number, and the bytes used.
+pub enum Integer {
+    Took { value: i64, used: usize },
+    Refused(Refusal),
+}
+
+pub enum Flag {
+    Took { value: bool, used: usize },
+    Refused(Refusal),
+}
+
+// A refusal at a place, with no need.
+pub fn at(number: u8, place: usize) -> Refusal
+    ensures { λ r. ⌜ ofRefusal r ≡ because number place ⌝ }
+{
+    Refusal {
+        number,
+        place,
+        need: 0,
+    }
+}
