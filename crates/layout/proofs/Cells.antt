@@ -81,11 +81,11 @@ module _ (w : Width) where
   extend-holds n h = extend-case (λ c. holds w c ≡ true) n h (holds-low n) (λ g. holds-high n g h)
 
 -- a cell shows the number that it was made of
-shows-pos : (n : ℕ) → n < 2 ^ 63 → signed w64 n ≡ pos n
+pub shows-pos : (n : ℕ) → n < 2 ^ 63 → signed w64 n ≡ pos n
 unfolding signed
 shows-pos n h = rw (lt-true n 9223372036854775808 h)
 
-shows-neg : (n : ℕ) → n < 2 ^ 63 → signed w64 (2 ^ 64 - suc n) ≡ negsuc n
+pub shows-neg : (n : ℕ) → n < 2 ^ 63 → signed w64 (2 ^ 64 - suc n) ≡ negsuc n
 unfolding signed
 shows-neg n h = rw (lt-false (2 ^ 64 - suc n) 9223372036854775808 (omega arith)) (ap negsuc (omega arith))
 

@@ -119,6 +119,15 @@ primitive-inv {A} r p s x n e = go (r p s) refl e
     go (ok y m) d e = d ∙ e
     go (bad c) d e = not-ok e
 
+-- a primitive refuses at its own start, and asks for nothing
+pub primitive-place : {A : Type 0} (r : Reader A) (p : ℕ) (s : List ℕ) (e : Refusal) → primitive r p s ≡ bad e → e ≡ because (e .number) p
+unfolding primitive
+primitive-place {A} r p s e h = go (r p s) h
+  where
+    go : (o : Res A) → placed p o ≡ bad e → e ≡ because (e .number) p
+    go (ok x n) h = let z : _≡_ {A = ℕ} 0 1 = cc in absurd (omega arith)
+    go (bad c) h = let x : because (c .number) p ≡ e = cc in sym x ∙ ap (λ (d : Refusal). because (d .number) p) x
+
 pub length-many : {A : Type 0} (r : Reader A) (n p : ℕ) (s : List ℕ) (xs : List A) (k : ℕ) → many n r p s ≡ ok xs k → length xs ≡ n
 length-many r zero p s xs k e = let d = many-none r p s in let y : xs ≡ [] = cc in ap length y
 length-many r (suc n) p s xs k e = let c = many-uncons r n p s xs k e in ap length (c .all) ∙ ap suc (length-many r n _ _ (c .xs) (c .m) (c .rest))

@@ -8,3 +8,5 @@ pub mod Varint
 pub mod Signed
 -- a primitive called by itself
 pub mod Alone
+-- zigzag
+pub mod Zigzag

@@ -4,7 +4,7 @@ use lib.IntN.{ℤ}
 use mathlib.Core.Bool.{Bool}
 use Rattle.layout.specs.Reading.{Res, bad, ok}
 use Rattle.layout.specs.Reading as Reading
-use Rattle.layout.specs.Primitives.{signed, w64}
+use Rattle.layout.specs.Primitives.{signed, unzigzag, w64}
 use Rattle.primitives.specs.declared.Flag.{Flag}
 use Rattle.primitives.specs.declared.Integer.{Integer}
 use Rattle.primitives.specs.declared.Number.{Number}
@@ -32,3 +32,7 @@ shownOf c = signed w64 c
 abbrev pub ofShown : Number → Res ℤ
 ofShown (Number.Took c n) = ok (shownOf c) n
 ofShown (Number.Refused e) = bad (ofRefusal e)
+
+-- the number that n carries by zigzag
+abbrev pub zigzagged : ℕ → ℤ
+zigzagged n = unzigzag n

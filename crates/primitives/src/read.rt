@@ -1,8 +1,8 @@
 // The calls: each judges the size of the message that it is lent, and reads the primitive at its front.
 ghost use mathlib.Core.Path.{_≡_};
-ghost use Rattle.layout.specs.Primitives.{flag, integer, unsigned, varint, varlong, w8, w16, w32, w64};
+ghost use Rattle.layout.specs.Primitives.{cellOf, flag, integer, unsigned, varint, varlong, w8, w16, w32, w64};
 ghost use Rattle.layout.specs.Answers.{alone};
-ghost use Rattle.primitives.specs.Answers.{ofFlag, ofInteger, ofNumber, ofShown, shownOf};
+ghost use Rattle.primitives.specs.Answers.{ofFlag, ofInteger, ofNumber, ofShown, shownOf, zigzagged};
 use crate::Flag;
 use crate::Integer;
 use crate::MOST;
@@ -88,4 +88,50 @@ pub fn unsigned_varint(msg: &[u8]) -> Number
         return Number::Refused(at(TOO_LONG, 0));
     }
     step::unsigned_varint(msg)
+}
+
+// The cell of the number that n carries by zigzag.
+fn unzigzag(n: u64) -> u64
+    ensures { λ r. ⌜ r ≡ cellOf (zigzagged n) ⌝ }
+{
+    if n % 2 == 0 {
+        return n / 2;
+    }
+    18446744073709551615 - n / 2
+}
+
+pub fn varlong(msg: &[u8]) -> Integer
+    ensures { λ r. ⌜ ofInteger r ≡ alone varlong (now (msg .entry)) ⌝ }
+{
+    if MOST < msg.len() {
+        return Integer::Refused(at(TOO_LONG, 0));
+    }
+    match step::unsigned_varint(msg) {
+        Number::Took { value, used } => Integer::Took {
+            value: signed(unzigzag(value)),
+            used,
+        },
+        Number::Refused(e) => Integer::Refused(e),
+    }
+}
+
+// 32 bits: what is outside is refused once the whole varint is read.
+pub fn varint(msg: &[u8]) -> Integer
+    ensures { λ r. ⌜ ofInteger r ≡ alone varint (now (msg .entry)) ⌝ }
+{
+    if MOST < msg.len() {
+        return Integer::Refused(at(TOO_LONG, 0));
+    }
+    match step::unsigned_varint(msg) {
+        Number::Took { value, used } => {
+            if 4294967295 < value {
+                return Integer::Refused(at(TOO_WIDE, 0));
+            }
+            Integer::Took {
+                value: signed(unzigzag(value)),
+                used,
+            }
+        }
+        Number::Refused(e) => Integer::Refused(e),
+    }
 }
