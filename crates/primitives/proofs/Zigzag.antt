@@ -66,7 +66,7 @@ module _ (s : List ℕ) where
   unfolding varint primitive
   varint-wide n k c e h d = ap bad d ∙ sym (ap (placed 0) (narrowed-high n k e h))
 
-  placed-0 : (e : Refusal) → unsigned 0 s ≡ bad e → e ≡ because (e .number) 0
+  pub placed-0 : (e : Refusal) → unsigned 0 s ≡ bad e → e ≡ because (e .number) 0
   unfolding unsigned
   placed-0 e h = primitive-place (groups 9 1 0) 0 s e h
 

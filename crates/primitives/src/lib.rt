@@ -51,6 +51,36 @@ pub enum Flag {
     Refused(Refusal),
 }
 
+// A length or count: null, or how many; and the bytes used.
+pub enum Count {
+    Null { used: usize },
+    Took { count: u64, used: usize },
+    Refused(Refusal),
+}
+
+// A text or data as a part of the message, and the bytes used.
+pub enum Part {
+    Took {
+        start: usize,
+        len: usize,
+        used: usize,
+    },
+    Refused(Refusal),
+}
+
+// A text or data that a version may lack and that may be null.
+pub enum Field {
+    Absent,
+    Null,
+    Present { start: usize, len: usize },
+}
+
+// A field, and the bytes used.
+pub enum Nullable {
+    Took { field: Field, used: usize },
+    Refused(Refusal),
+}
+
 // A refusal at a place, with no need.
 pub fn at(number: u8, place: usize) -> Refusal
     ensures { λ r. ⌜ ofRefusal r ≡ because number place ⌝ }

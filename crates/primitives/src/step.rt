@@ -1,12 +1,21 @@
 // Readers of what is left of a message: each takes the rest behind the primitive before it, and its promise speaks of that part.
 ghost use mathlib.Core.Path.{_≡_};
+ghost use mathlib.Core.Bool.{false};
 ghost use Prim.Native.Nat.{_+_, _*_, _<_, _≤_};
-ghost use lib.ListN.{length, take};
-ghost use Rattle.layout.specs.Primitives.{be, cell, flag, unsigned, w8, w16, w32, w64};
-ghost use Rattle.primitives.specs.Answers.{ofNumber, ofFlag};
+ghost use lib.ListN.{drop, length, take};
+ghost use Rattle.layout.specs.Primitives.{be, cell, compact, empty, fixed, flag, kept, never, unsigned, w8, w16, w32, w64};
+ghost use Rattle.layout.specs.Rows.{blob};
+ghost use Rattle.layout.specs.Read.{byPlace, readBasic};
+ghost use Rattle.primitives.specs.Answers.{counted, dataBehind, ofCount, ofFlag, ofNullable, ofNumber, ofPart, somePart};
 use crate::BYTES_END;
+use crate::Count;
+use crate::Field;
 use crate::Flag;
+use crate::LENGTH_BELOW;
+use crate::LENGTH_ZERO;
+use crate::Nullable;
 use crate::Number;
+use crate::Part;
 use crate::VARINT_CONTINUES;
 use crate::at;
 
@@ -145,4 +154,140 @@ pub fn unsigned_varint(s: &[u8]) -> Number
         };
     }
     Number::Refused(at(VARINT_CONTINUES, 0))
+}
+
+// ---- lengths and counts
+
+pub fn length16(s: &[u8]) -> Count
+    ensures { λ r. ⌜ ofCount r ≡ counted (fixed w16 kept) 0 (now (s .entry)) ⌝ }
+{
+    if s.len() < 2 {
+        return Count::Refused(at(BYTES_END, 0));
+    }
+    let n = two(s);
+    if n < 32768 {
+        return Count::Took { count: n, used: 2 };
+    }
+    if n == 65535 {
+        return Count::Null { used: 2 };
+    }
+    Count::Refused(at(LENGTH_BELOW, 0))
+}
+
+pub fn length32(s: &[u8]) -> Count
+    ensures { λ r. ⌜ ofCount r ≡ counted (fixed w32 kept) 0 (now (s .entry)) ⌝ }
+{
+    if s.len() < 4 {
+        return Count::Refused(at(BYTES_END, 0));
+    }
+    let n = four(s);
+    if n < 2147483648 {
+        return Count::Took { count: n, used: 4 };
+    }
+    if n == 4294967295 {
+        return Count::Null { used: 4 };
+    }
+    Count::Refused(at(LENGTH_BELOW, 0))
+}
+
+// One more than the length, 0 for null.
+pub fn compact_length(s: &[u8]) -> Count
+    ensures { λ r. ⌜ ofCount r ≡ counted (compact kept) 0 (now (s .entry)) ⌝ }
+{
+    match unsigned_varint(s) {
+        Number::Took { value, used } => {
+            if value == 0 {
+                return Count::Null { used };
+            }
+            Count::Took {
+                count: value - 1,
+                used,
+            }
+        }
+        Number::Refused(e) => Count::Refused(e),
+    }
+}
+
+// ---- data: the part of the message behind its length
+
+// What is left behind `used` bytes, and nothing behind the end.
+fn rest(s: &[u8], used: usize) -> &[u8]
+    ensures { λ r. ⌜ now r ≡ drop used (now (s .entry)) ⌝ }
+{
+    if used < s.len() {
+        &s[used..]
+    } else {
+        &s[s.len()..]
+    }
+}
+
+fn contents(s: &[u8], used: usize, count: u64) -> Part
+    ensures { λ r. ⌜ ofPart r ≡ dataBehind used count (now (s .entry)) ⌝ }
+{
+    let left = rest(s, used);
+    if (left.len() as u64) < count {
+        return Part::Refused(at(BYTES_END, 0));
+    }
+    let len = count as usize;
+    Part::Took {
+        start: used,
+        len,
+        used: used + len,
+    }
+}
+
+pub fn bytes(s: &[u8]) -> Part
+    ensures { λ r. ⌜ ofPart r ≡ readBasic (byPlace false) (blob (fixed w32 never)) 0 (now (s .entry)) ⌝ }
+{
+    match length32(s) {
+        Count::Took { count, used } => contents(s, used, count),
+        Count::Null { used: _ } => Part::Refused(at(LENGTH_BELOW, 0)),
+        Count::Refused(e) => Part::Refused(e),
+    }
+}
+
+pub fn nullable_bytes(s: &[u8]) -> Nullable
+    ensures { λ r. ⌜ ofNullable r ≡ readBasic (byPlace false) (blob (fixed w32 kept)) 0 (now (s .entry)) ⌝ }
+{
+    match length32(s) {
+        Count::Took { count, used } => present(contents(s, used, count)),
+        Count::Null { used } => Nullable::Took {
+            field: Field::Null,
+            used,
+        },
+        Count::Refused(e) => Nullable::Refused(e),
+    }
+}
+
+fn present(p: Part) -> Nullable
+    ensures { λ r. ⌜ ofNullable r ≡ somePart (ofPart p) ⌝ }
+{
+    match p {
+        Part::Took { start, len, used } => Nullable::Took {
+            field: Field::Present { start, len },
+            used,
+        },
+        Part::Refused(e) => Nullable::Refused(e),
+    }
+}
+
+pub fn compact_bytes(s: &[u8]) -> Part
+    ensures { λ r. ⌜ ofPart r ≡ readBasic (byPlace false) (blob (compact never)) 0 (now (s .entry)) ⌝ }
+{
+    match compact_length(s) {
+        Count::Took { count, used } => contents(s, used, count),
+        Count::Null { used: _ } => Part::Refused(at(LENGTH_ZERO, 0)),
+        Count::Refused(e) => Part::Refused(e),
+    }
+}
+
+// NULLABLE_BYTES, null shown as empty; the batches inside are not looked at.
+pub fn records(s: &[u8]) -> Part
+    ensures { λ r. ⌜ ofPart r ≡ readBasic (byPlace false) (blob (fixed w32 empty)) 0 (now (s .entry)) ⌝ }
+{
+    match length32(s) {
+        Count::Took { count, used } => contents(s, used, count),
+        Count::Null { used } => contents(s, used, 0),
+        Count::Refused(e) => Part::Refused(e),
+    }
 }

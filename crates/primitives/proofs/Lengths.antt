@@ -1,0 +1,116 @@
+-- Lengths and counts, and what stands behind them: what each step answers, and what a field's reader makes of it. One law over the form.
+use mathlib.Core.Bool.{Bool, false, true}
+use mathlib.Core.List.{List}
+use mathlib.Core.Logic.{_≢_}
+use mathlib.Core.Option.{Option, none, some}
+use mathlib.Core.Path.{_∙_, _≡_, ap, refl, subst, sym}
+use Prim.Native.Nat.{_+_, _-_, _<_, _^_, _≤_, suc, zero, ℕ}
+use native.Mathlib.Nat.{add-zero, zero-add}
+use native.Mathlib.Omega.{arith}
+use lib.Dec.{eqb, ltb}
+use lib.ListN.{drop, length, take}
+use borrow.Author.Tests.{eq-eqb, ne-eqb}
+use Rattle.layout.specs.Reading.{Reader, Refusal, Res, bad, because, fail, give, more, next, ok, pick, placed, primitive, then}
+use Rattle.layout.specs.Primitives.{Maybe, Null, Size, Width, be, bits, checked, compact, fixed, int, lengthOf, size, sized, unsigned}
+use Rattle.layout.proofs.Steps.{checked-inv, int-bad, int-ok, primitive-place, then-bad, then-ok}
+use Rattle.layout.proofs.Tests.{lt-false, lt-true, one-more}
+use Rattle.primitives.specs.Answers.{counted}
+
+-- ---- a length that may be null or not
+
+module _ (len : Reader ℕ) (s : List ℕ) where
+  -- the reader under `primitive`
+  abbrev judged : Bool → ℕ → Reader ℕ
+  judged a e = then len (λ n. pick (eqb n 0) (pick a (give 0) (fail e)) (give n))
+
+  some-judged : (a : Bool) (e n u : ℕ) → len 0 s ≡ ok (n + 1) u → judged a e 0 s ≡ ok (n + 1) u
+  unfolding pick give
+  some-judged a e n u h = then-ok len _ 0 s (n + 1) u h ∙ rw (one-more n) (ap (λ (k : ℕ). ok (n + 1) k) (add-zero u))
+
+  pub checked-some : (a : Bool) (e n u : ℕ) → len 0 s ≡ ok (n + 1) u → checked a e len 0 s ≡ ok (n + 1) u
+  unfolding checked primitive
+  checked-some a e n u h = ap (placed 0) (some-judged a e n u h)
+
+  null-judged : (e u : ℕ) → len 0 s ≡ ok 0 u → judged true e 0 s ≡ ok 0 u
+  unfolding pick give
+  null-judged e u h = then-ok len _ 0 s 0 u h ∙ ap (λ (k : ℕ). ok 0 k) (add-zero u)
+
+  pub checked-null : (e u : ℕ) → len 0 s ≡ ok 0 u → checked true e len 0 s ≡ ok 0 u
+  unfolding checked primitive
+  checked-null e u h = ap (placed 0) (null-judged e u h)
+
+  never-judged : (e u : ℕ) → len 0 s ≡ ok 0 u → judged false e 0 s ≡ bad (because e (0 + u))
+  unfolding pick fail
+  never-judged e u h = then-ok len _ 0 s 0 u h
+
+  pub checked-never : (e u : ℕ) → len 0 s ≡ ok 0 u → checked false e len 0 s ≡ bad (because e 0)
+  unfolding checked primitive
+  checked-never e u h = ap (placed 0) (never-judged e u h)
+
+  pub checked-bad : (a : Bool) (e : ℕ) (c : Refusal) → len 0 s ≡ bad c → checked a e len 0 s ≡ bad (because (c .number) 0)
+  unfolding checked primitive
+  checked-bad a e c h = ap (placed 0) (then-bad len _ 0 s c h)
+
+  -- what a length with its null refuses was refused by the length
+  pub length-bad : (e : ℕ) (c : Refusal) → checked true e len 0 s ≡ bad c → (d : Refusal) × (len 0 s ≡ bad d) × (c ≡ because (d .number) 0)
+  length-bad e c h = go (len 0 s) refl
+    where
+      go : (o : Res ℕ) → len 0 s ≡ o → (d : Refusal) × (len 0 s ≡ bad d) × (c ≡ because (d .number) 0)
+      go (ok zero u) i = let k = checked-null e u i in let z : _≡_ {A = ℕ} 0 1 = cc in absurd (omega arith)
+      go (ok (suc n) u) i = let k = checked-some true e n u (i ∙ ap (λ (m : ℕ). ok m u) (omega arith)) in let z : _≡_ {A = ℕ} 0 1 = cc in absurd (omega arith)
+      go (bad d) i = let k = checked-bad true e d i in (d, i, cc)
+
+-- ---- a signed number of the width w
+
+module _ (w : Width) (m : Null) (s : List ℕ) where
+  abbrev len : Reader ℕ
+  len = lengthOf unsigned (fixed w m)
+
+  fixed-is : (n : ℕ) → size w ≤ length s → n ≡ be 0 (take (size w) s) →
+      len 0 s ≡ more (size w) (pick (ltb n (2 ^ (bits w - 1))) (give (n + 1)) (pick (eqb n (2 ^ bits w - 1)) (give 0) (fail 4)) (0 + size w) (drop (size w) s))
+  unfolding lengthOf
+  fixed-is n h e = then-ok (int (size w)) _ 0 s (be 0 (take (size w) s)) (size w) (int-ok (size w) 0 s h)
+      ∙ ap (λ (k : ℕ). more (size w) (pick (ltb k (2 ^ (bits w - 1))) (give (k + 1)) (pick (eqb k (2 ^ bits w - 1)) (give 0) (fail 4)) (0 + size w) (drop (size w) s))) (sym e)
+
+  pub length-short : (e : Refusal) → e ≡ because 3 0 → length s < size w → bad e ≡ counted (fixed w m) 0 s
+  unfolding counted lengthOf
+  length-short e i h = ap bad i ∙ sym (checked-bad (lengthOf unsigned (fixed w m)) s true 4 (because 3 0) (then-bad (int (size w)) _ 0 s (because 3 0) (int-bad (size w) 0 s h)))
+
+  some-is : (n : ℕ) → size w ≤ length s → n ≡ be 0 (take (size w) s) → n < 2 ^ (bits w - 1) → len 0 s ≡ ok (n + 1) (size w)
+  unfolding pick give
+  some-is n h e l = fixed-is n h e ∙ rw (lt-true n (2 ^ (bits w - 1)) l) (ap (λ (k : ℕ). ok (n + 1) k) (add-zero (size w)))
+
+  pub length-some : (n : ℕ) → size w ≤ length s → n ≡ be 0 (take (size w) s) → n < 2 ^ (bits w - 1) → ok (n + 1) (size w) ≡ counted (fixed w m) 0 s
+  unfolding counted
+  length-some n h e l = sym (checked-some (lengthOf unsigned (fixed w m)) s true 4 n (size w) (some-is n h e l))
+
+  null-is : (n : ℕ) → size w ≤ length s → n ≡ be 0 (take (size w) s) → 2 ^ (bits w - 1) ≤ n → n ≡ 2 ^ bits w - 1 → len 0 s ≡ ok 0 (size w)
+  unfolding pick give
+  null-is n h e l g = fixed-is n h e ∙ rw (lt-false n (2 ^ (bits w - 1)) l, eq-eqb n (2 ^ bits w - 1) g) (ap (λ (k : ℕ). ok 0 k) (add-zero (size w)))
+
+  pub length-null : (n : ℕ) → size w ≤ length s → n ≡ be 0 (take (size w) s) → 2 ^ (bits w - 1) ≤ n → n ≡ 2 ^ bits w - 1 → ok 0 (size w) ≡ counted (fixed w m) 0 s
+  unfolding counted
+  length-null n h e l g = sym (checked-null (lengthOf unsigned (fixed w m)) s 4 (size w) (null-is n h e l g))
+
+  below-is : (n : ℕ) → size w ≤ length s → n ≡ be 0 (take (size w) s) → 2 ^ (bits w - 1) ≤ n → n ≢ 2 ^ bits w - 1 → len 0 s ≡ bad (because 4 (0 + size w))
+  unfolding pick fail
+  below-is n h e l g = fixed-is n h e ∙ rw (lt-false n (2 ^ (bits w - 1)) l, ne-eqb n (2 ^ bits w - 1) g)
+
+  pub length-below : (n : ℕ) (c : Refusal) → c ≡ because 4 0 → size w ≤ length s → n ≡ be 0 (take (size w) s) → 2 ^ (bits w - 1) ≤ n → n ≢ 2 ^ bits w - 1 → bad c ≡ counted (fixed w m) 0 s
+  unfolding counted
+  length-below n c i h e l g = ap bad i ∙ sym (checked-bad (lengthOf unsigned (fixed w m)) s true 4 _ (below-is n h e l g))
+
+-- ---- an unsigned varint, one more than the length
+
+module _ (m : Null) (s : List ℕ) where
+  pub compact-null : (n u : ℕ) → unsigned 0 s ≡ ok n u → n ≡ 0 → ok 0 u ≡ counted (compact m) 0 s
+  unfolding counted lengthOf
+  compact-null n u h e = sym (checked-null (lengthOf unsigned (compact m)) s 4 u (h ∙ ap (λ (k : ℕ). ok k u) e))
+
+  pub compact-some : (n u : ℕ) → unsigned 0 s ≡ ok n u → n ≢ 0 → ok (n - 1 + 1) u ≡ counted (compact m) 0 s
+  unfolding counted lengthOf
+  compact-some n u h e = sym (checked-some (lengthOf unsigned (compact m)) s true 4 (n - 1) u (h ∙ ap (λ (k : ℕ). ok k u) (omega arith)))
+
+  pub compact-bad : (c : Refusal) → unsigned 0 s ≡ bad c → c ≡ because (c .number) 0 → bad c ≡ counted (compact m) 0 s
+  unfolding counted lengthOf
+  compact-bad c h e = ap bad e ∙ sym (checked-bad (lengthOf unsigned (compact m)) s true 4 c h)

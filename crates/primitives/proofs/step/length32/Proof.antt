@@ -1,0 +1,42 @@
+use Rattle.layout.specs.Primitives.{kept, w32}
+use Rattle.primitives.proofs.Lengths.{length-below, length-null, length-short, length-some}
+use borrow.Author.Needs.{needs}
+use Rattle.primitives.proofs.step.length32.Statement.{statement}
+use Rattle.primitives.proofs.step.length32.Tie as tie
+use Rattle.primitives.proofs.step.length32.Reads as reads
+use Rattle.primitives.proofs.step.length32.Lts as lts
+use Rattle.primitives.proofs.at.Reads as at-reads
+use Rattle.primitives.proofs.step.four.Reads as four-reads
+
+-- src/step.rt:181:31
+at-requires : tie.Need-at-requires
+at-requires c κs = search needs
+
+-- src/step.rt:181:9
+returns : tie.Need-returns
+returns c = length-short w32 kept _ _ (c .at .ensures) (search needs)
+
+-- src/step.rt:183:9
+four-requires : tie.Need-four-requires
+four-requires c κs = search needs
+
+-- src/step.rt:185:9
+returns-2 : tie.Need-returns-2
+returns-2 c = length-some w32 kept _ (c .before .four .result) (search needs) (c .before .four .ensures .0) (search needs)
+
+-- src/step.rt:188:9
+returns-3 : tie.Need-returns-3
+returns-3 c = length-null w32 kept _ (c .before .before .four .result) (search needs) (c .before .before .four .ensures .0) (search needs) (search needs)
+
+-- src/step.rt:190:20
+at-requires-2 : tie.Need-at-requires-2
+at-requires-2 c κs = search needs
+
+-- src/step.rt:177:1
+returns-4 : tie.Need-returns-4
+returns-4 c = length-below w32 kept _ (c .before .before .before .four .result) _ (c .at2 .ensures) (search needs) (c .before .before .before .four .ensures .0) (search needs) (search needs)
+
+pub length32-spec : {M : Type 1} → statement M
+length32-spec =
+    tie.close
+    (tie.spec at-requires returns four-requires returns-2 returns-3 at-requires-2 returns-4)
