@@ -1,12 +1,18 @@
 // The calls: each judges the size of the message that it is lent, and reads the primitive at its front.
 ghost use mathlib.Core.Path.{_≡_};
-ghost use Rattle.layout.specs.Primitives.{cellOf, flag, integer, unsigned, varint, varlong, w8, w16, w32, w64};
+ghost use mathlib.Core.Bool.{false};
+ghost use Rattle.layout.specs.Primitives.{cellOf, compact, empty, fixed, flag, integer, kept, never, unsigned, varint, varlong, w8, w16, w32, w64};
+ghost use Rattle.layout.specs.Rows.{blob};
+ghost use Rattle.layout.specs.Read.{byPlace, readBasic};
 ghost use Rattle.layout.specs.Answers.{alone};
-ghost use Rattle.primitives.specs.Answers.{ofFlag, ofInteger, ofNumber, ofShown, shownOf, zigzagged};
+ghost use Rattle.primitives.specs.Answers.{counted, ofCount, ofFlag, ofInteger, ofNullable, ofNumber, ofPart, ofShown, shownOf, zigzagged};
+use crate::Count;
 use crate::Flag;
 use crate::Integer;
 use crate::MOST;
+use crate::Nullable;
 use crate::Number;
+use crate::Part;
 use crate::TOO_LONG;
 use crate::TOO_WIDE;
 use crate::at;
@@ -134,4 +140,60 @@ pub fn varint(msg: &[u8]) -> Integer
         }
         Number::Refused(e) => Integer::Refused(e),
     }
+}
+
+// ---- counts and bytes
+
+pub fn array_count(msg: &[u8]) -> Count
+    ensures { λ r. ⌜ ofCount r ≡ alone (counted (fixed w32 kept)) (now (msg .entry)) ⌝ }
+{
+    if MOST < msg.len() {
+        return Count::Refused(at(TOO_LONG, 0));
+    }
+    step::length32(msg)
+}
+
+pub fn compact_array_count(msg: &[u8]) -> Count
+    ensures { λ r. ⌜ ofCount r ≡ alone (counted (compact kept)) (now (msg .entry)) ⌝ }
+{
+    if MOST < msg.len() {
+        return Count::Refused(at(TOO_LONG, 0));
+    }
+    step::compact_length(msg)
+}
+
+pub fn bytes(msg: &[u8]) -> Part
+    ensures { λ r. ⌜ ofPart r ≡ alone (readBasic (byPlace false) (blob (fixed w32 never))) (now (msg .entry)) ⌝ }
+{
+    if MOST < msg.len() {
+        return Part::Refused(at(TOO_LONG, 0));
+    }
+    step::bytes(msg)
+}
+
+pub fn nullable_bytes(msg: &[u8]) -> Nullable
+    ensures { λ r. ⌜ ofNullable r ≡ alone (readBasic (byPlace false) (blob (fixed w32 kept))) (now (msg .entry)) ⌝ }
+{
+    if MOST < msg.len() {
+        return Nullable::Refused(at(TOO_LONG, 0));
+    }
+    step::nullable_bytes(msg)
+}
+
+pub fn compact_bytes(msg: &[u8]) -> Part
+    ensures { λ r. ⌜ ofPart r ≡ alone (readBasic (byPlace false) (blob (compact never))) (now (msg .entry)) ⌝ }
+{
+    if MOST < msg.len() {
+        return Part::Refused(at(TOO_LONG, 0));
+    }
+    step::compact_bytes(msg)
+}
+
+pub fn records(msg: &[u8]) -> Part
+    ensures { λ r. ⌜ ofPart r ≡ alone (readBasic (byPlace false) (blob (fixed w32 empty))) (now (msg .entry)) ⌝ }
+{
+    if MOST < msg.len() {
+        return Part::Refused(at(TOO_LONG, 0));
+    }
+    step::records(msg)
 }

@@ -1,0 +1,29 @@
+use Rattle.layout.specs.Primitives.{fixed, kept, w32}
+use Rattle.primitives.specs.Answers.{counted}
+use Rattle.primitives.proofs.Alone.{alone-long, alone-is}
+use borrow.Author.Needs.{needs}
+use Rattle.primitives.proofs.read.array_count.Statement.{statement}
+use Rattle.primitives.proofs.read.array_count.Tie as tie
+use Rattle.primitives.proofs.read.array_count.Reads as reads
+use Rattle.primitives.proofs.read.array_count.Lts as lts
+use Rattle.primitives.proofs.at.Reads as at-reads
+use Rattle.primitives.proofs.step.length32.Reads as length32-reads
+
+-- src/read.rt:151:31
+at-requires : tie.Need-at-requires
+at-requires c κs = search needs
+
+-- src/read.rt:151:9
+returns : tie.Need-returns
+returns c = alone-long (counted (fixed w32 kept)) _ _ (c .at .ensures) (search needs)
+
+-- src/read.rt:153:5
+length32-requires : tie.Need-length32-requires
+length32-requires c κs = search needs
+
+-- src/read.rt:147:1
+returns-2 : tie.Need-returns-2
+returns-2 c = alone-is (counted (fixed w32 kept)) _ (search needs) _ (c .length32 .ensures)
+
+pub array-count-spec : {M : Type 1} → statement M
+array-count-spec = tie.close (tie.spec at-requires returns length32-requires returns-2)

@@ -1,0 +1,29 @@
+use Rattle.layout.specs.Primitives.{compact, kept}
+use Rattle.primitives.specs.Answers.{counted}
+use Rattle.primitives.proofs.Alone.{alone-long, alone-is}
+use borrow.Author.Needs.{needs}
+use Rattle.primitives.proofs.read.compact_array_count.Statement.{statement}
+use Rattle.primitives.proofs.read.compact_array_count.Tie as tie
+use Rattle.primitives.proofs.read.compact_array_count.Reads as reads
+use Rattle.primitives.proofs.read.compact_array_count.Lts as lts
+use Rattle.primitives.proofs.at.Reads as at-reads
+use Rattle.primitives.proofs.step.compact_length.Reads as compact-length-reads
+
+-- src/read.rt:160:31
+at-requires : tie.Need-at-requires
+at-requires c κs = search needs
+
+-- src/read.rt:160:9
+returns : tie.Need-returns
+returns c = alone-long (counted (compact kept)) _ _ (c .at .ensures) (search needs)
+
+-- src/read.rt:162:5
+compact-length-requires : tie.Need-compact-length-requires
+compact-length-requires c κs = search needs
+
+-- src/read.rt:156:1
+returns-2 : tie.Need-returns-2
+returns-2 c = alone-is (counted (compact kept)) _ (search needs) _ (c .compact-length .ensures)
+
+pub compact-array-count-spec : {M : Type 1} → statement M
+compact-array-count-spec = tie.close (tie.spec at-requires returns compact-length-requires returns-2)
