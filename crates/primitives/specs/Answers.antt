@@ -4,7 +4,8 @@ use Prim.Native.Nat.{_+_, ℕ}
 use lib.IntN.{ℤ}
 use lib.ListN.{drop}
 use mathlib.Core.Bool.{Bool, false, true}
-use mathlib.Core.List.{List}
+use mathlib.Core.List.{List, []}
+use Rattle.layout.specs.Answers.{Answer, accepted, refused}
 use Rattle.layout.specs.Reading.{Reader, Res, bad, more, ok, placed}
 use Rattle.layout.specs.Reading as Reading
 use Rattle.layout.specs.Primitives.{Size, checked, lengthOf, signed, unsigned, unzigzag, w64}
@@ -18,9 +19,13 @@ use Rattle.primitives.specs.declared.Number.{Number}
 use Rattle.primitives.specs.declared.Nullable.{Nullable}
 use Rattle.primitives.specs.declared.Part.{Part}
 use Rattle.primitives.specs.declared.Refusal.{Refusal}
+use Rattle.primitives.specs.declared.Written.{Written}
 
 abbrev pub ofRefusal : Refusal → Reading.Refusal
 ofRefusal e = record { number = e .number; place = e .place; need = e .need }
+
+abbrev pub noRoom : ℕ → Reading.Refusal
+noRoom n = record { number = 10; place = 0; need = n }
 
 abbrev pub ofNumber : Number → Res ℕ
 ofNumber (Number.Took v n) = ok v n
@@ -44,15 +49,20 @@ abbrev pub ofPart : Part → Res Span
 ofPart (Part.Took a k n) = ok (a, k) n
 ofPart (Part.Refused e) = bad (ofRefusal e)
 
--- a field that is there: null, or a part of the message
-abbrev pub ofField : Field → Option Span
+-- absent, null, or a part of the message
+abbrev pub ofField : Field → Option (Option Span)
 ofField Field.Absent = none
-ofField Field.Null = none
-ofField (Field.Present a k) = some (a, k)
+ofField Field.Null = some none
+ofField (Field.Present a k) = some (some (a, k))
 
-abbrev pub ofNullable : Nullable → Res (Option Span)
+abbrev pub ofNullable : Nullable → Res (Option (Option Span))
 ofNullable (Nullable.Took f n) = ok (ofField f) n
 ofNullable (Nullable.Refused e) = bad (ofRefusal e)
+
+-- writers have no row to show
+abbrev pub ofWritten : Written → Answer
+ofWritten (Written.Wrote n) = accepted [] n
+ofWritten (Written.Refused e) = refused (ofRefusal e)
 
 -- the signed number that a cell shows, also in an answer
 abbrev pub shownOf : ℕ → ℤ
@@ -77,3 +87,8 @@ dataBehind u n s = placed 0 (more u (readBlob (byPlace false) n u (drop u s)))
 abbrev pub somePart : Res Span → Res (Option Span)
 somePart (ok x n) = ok (some x) n
 somePart (bad e) = bad e
+
+-- a field that the version has
+abbrev pub there : Res (Option Span) → Res (Option (Option Span))
+there (ok x n) = ok (some x) n
+there (bad e) = bad e

@@ -1,11 +1,14 @@
 // Kafka's primitive types and tagged fields, read and written.
 // `step` reads one primitive at the front of what is left of a message; `read` has the calls, which judge the message's size first.
+// `put` writes one primitive at the front of what is left of the output; `write` has the calls, which judge the number first.
 ghost use mathlib.Core.Path.{_≡_};
 ghost use Rattle.layout.specs.Reading.{because};
-ghost use Rattle.primitives.specs.Answers.{ofRefusal};
+ghost use Rattle.primitives.specs.Answers.{noRoom, ofRefusal};
 
+pub mod put;
 pub mod read;
 pub mod step;
+pub mod write;
 
 // The numbers of docs/RULES.md, section 10.
 pub const TOO_LONG: u8 = 2;
@@ -81,6 +84,12 @@ pub enum Nullable {
     Refused(Refusal),
 }
 
+// How many bytes were written, or why none were.
+pub enum Written {
+    Wrote(usize),
+    Refused(Refusal),
+}
+
 // A refusal at a place, with no need.
 pub fn at(number: u8, place: usize) -> Refusal
     ensures { λ r. ⌜ ofRefusal r ≡ because number place ⌝ }
@@ -89,5 +98,16 @@ pub fn at(number: u8, place: usize) -> Refusal
         number,
         place,
         need: 0,
+    }
+}
+
+// A refusal for want of room, with the bytes or rows needed.
+pub fn no_room(need: usize) -> Refusal
+    ensures { λ r. ⌜ ofRefusal r ≡ noRoom need ⌝ }
+{
+    Refusal {
+        number: NO_ROOM,
+        place: 0,
+        need,
     }
 }

@@ -5,7 +5,7 @@ ghost use Rattle.layout.specs.Primitives.{cellOf, compact, empty, fixed, flag, 
 ghost use Rattle.layout.specs.Rows.{blob};
 ghost use Rattle.layout.specs.Read.{byPlace, readBasic};
 ghost use Rattle.layout.specs.Answers.{alone};
-ghost use Rattle.primitives.specs.Answers.{counted, ofCount, ofFlag, ofInteger, ofNullable, ofNumber, ofPart, ofShown, shownOf, zigzagged};
+ghost use Rattle.primitives.specs.Answers.{counted, ofCount, ofFlag, ofInteger, ofNullable, ofNumber, ofPart, ofShown, shownOf, there, zigzagged};
 use crate::Count;
 use crate::Flag;
 use crate::Integer;
@@ -172,7 +172,7 @@ pub fn bytes(msg: &[u8]) -> Part
 }
 
 pub fn nullable_bytes(msg: &[u8]) -> Nullable
-    ensures { λ r. ⌜ ofNullable r ≡ alone (readBasic (byPlace false) (blob (fixed w32 kept))) (now (msg .entry)) ⌝ }
+    ensures { λ r. ⌜ ofNullable r ≡ there (alone (readBasic (byPlace false) (blob (fixed w32 kept))) (now (msg .entry))) ⌝ }
 {
     if MOST < msg.len() {
         return Nullable::Refused(at(TOO_LONG, 0));

@@ -6,7 +6,7 @@ ghost use lib.ListN.{drop, length, take};
 ghost use Rattle.layout.specs.Primitives.{be, cell, compact, empty, fixed, flag, kept, never, unsigned, w8, w16, w32, w64};
 ghost use Rattle.layout.specs.Rows.{blob};
 ghost use Rattle.layout.specs.Read.{byPlace, readBasic};
-ghost use Rattle.primitives.specs.Answers.{counted, dataBehind, ofCount, ofFlag, ofNullable, ofNumber, ofPart, somePart};
+ghost use Rattle.primitives.specs.Answers.{counted, dataBehind, ofCount, ofFlag, ofNullable, ofNumber, ofPart, somePart, there};
 use crate::BYTES_END;
 use crate::Count;
 use crate::Field;
@@ -247,7 +247,7 @@ pub fn bytes(s: &[u8]) -> Part
 }
 
 pub fn nullable_bytes(s: &[u8]) -> Nullable
-    ensures { λ r. ⌜ ofNullable r ≡ readBasic (byPlace false) (blob (fixed w32 kept)) 0 (now (s .entry)) ⌝ }
+    ensures { λ r. ⌜ ofNullable r ≡ there (readBasic (byPlace false) (blob (fixed w32 kept)) 0 (now (s .entry))) ⌝ }
 {
     match length32(s) {
         Count::Took { count, used } => present(contents(s, used, count)),
@@ -260,7 +260,7 @@ pub fn nullable_bytes(s: &[u8]) -> Nullable
 }
 
 fn present(p: Part) -> Nullable
-    ensures { λ r. ⌜ ofNullable r ≡ somePart (ofPart p) ⌝ }
+    ensures { λ r. ⌜ ofNullable r ≡ there (somePart (ofPart p)) ⌝ }
 {
     match p {
         Part::Took { start, len, used } => Nullable::Took {

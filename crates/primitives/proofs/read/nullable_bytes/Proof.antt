@@ -1,7 +1,9 @@
+use mathlib.Core.Path.{_∙_, ap, refl}
 use mathlib.Core.Bool.{false}
 use Rattle.layout.specs.Primitives.{fixed, kept, w32}
 use Rattle.layout.specs.Rows.{blob}
 use Rattle.layout.specs.Read.{byPlace, readBasic}
+use Rattle.primitives.specs.Answers.{there}
 use Rattle.primitives.proofs.Alone.{alone-long, alone-is}
 use borrow.Author.Needs.{needs}
 use Rattle.primitives.proofs.read.nullable_bytes.Statement.{statement}
@@ -17,7 +19,7 @@ at-requires c κs = search needs
 
 -- src/read.rt:178:9
 returns : tie.Need-returns
-returns c = alone-long (readBasic (byPlace false) (blob (fixed w32 kept))) _ _ (c .at .ensures) (search needs)
+returns c = ap there (alone-long (readBasic (byPlace false) (blob (fixed w32 kept))) _ _ (c .at .ensures) (search needs))
 
 -- src/read.rt:180:5
 nullable-bytes-requires : tie.Need-nullable-bytes-requires
@@ -25,7 +27,7 @@ nullable-bytes-requires c κs = search needs
 
 -- src/read.rt:174:1
 returns-2 : tie.Need-returns-2
-returns-2 c = alone-is (readBasic (byPlace false) (blob (fixed w32 kept))) _ (search needs) _ (c .nullable-bytes .ensures)
+returns-2 c = c .nullable-bytes .ensures ∙ ap there (alone-is (readBasic (byPlace false) (blob (fixed w32 kept))) _ (search needs) _ refl)
 
 pub nullable-bytes-spec : {M : Type 1} → statement M
 nullable-bytes-spec = tie.close (tie.spec at-requires returns nullable-bytes-requires returns-2)

@@ -1,8 +1,8 @@
 use mathlib.Core.Bool.{false, true}
-use mathlib.Core.Path.{ap}
+use mathlib.Core.Path.{_∙_, ap, refl}
 use Rattle.layout.specs.Primitives.{fixed, kept, lengthOf, unsigned, w32}
 use Rattle.layout.specs.Read.{byPlace, readBasic, readBlob}
-use Rattle.primitives.specs.Answers.{counted, dataBehind, ofCount}
+use Rattle.primitives.specs.Answers.{counted, dataBehind, ofCount, there}
 use Rattle.primitives.proofs.Behind.{kept-none, kept-refused, kept-took}
 use borrow.Author.Needs.{needs}
 use Rattle.primitives.proofs.step.nullable_bytes.Statement.{statement}
@@ -40,17 +40,17 @@ enum-known-e c = search needs
 -- src/step.rt:249:1
 returns : tie.Need-returns
 unfolding readBasic counted dataBehind lengthOf
-returns c = kept-took (lengthOf unsigned (fixed w32 kept)) _ _ (c .before .before .before .before .before .length32 .ensures) (readBlob (byPlace false)) true 4 _ _ (c .before .before .before .count .given .1) _ _ (c .present .ensures) (c .before .contents .ensures)
+returns c = c .present .ensures ∙ ap there (kept-took (lengthOf unsigned (fixed w32 kept)) _ _ (c .before .before .before .before .before .length32 .ensures) (readBlob (byPlace false)) true 4 _ _ (c .before .before .before .count .given .1) _ _ refl (c .before .contents .ensures))
 
 -- src/step.rt:249:1
 returns-2 : tie.Need-returns-2
 unfolding readBasic counted dataBehind lengthOf
-returns-2 c = kept-none (lengthOf unsigned (fixed w32 kept)) _ _ (c .before .before .before .length32 .ensures) (readBlob (byPlace false)) true 4 _ (c .before .used .given .1)
+returns-2 c = ap there (kept-none (lengthOf unsigned (fixed w32 kept)) _ _ (c .before .before .before .length32 .ensures) (readBlob (byPlace false)) true 4 _ (c .before .used .given .1))
 
 -- src/step.rt:249:1
 returns-3 : tie.Need-returns-3
 unfolding readBasic counted dataBehind lengthOf
-returns-3 c = kept-refused (lengthOf unsigned (fixed w32 kept)) _ (c .before .before .before .length32 .result) (c .before .before .before .length32 .ensures) (readBlob (byPlace false)) true 4 _ (ap ofCount (c .before .e .given .1))
+returns-3 c = ap there (kept-refused (lengthOf unsigned (fixed w32 kept)) _ (c .before .before .before .length32 .result) (c .before .before .before .length32 .ensures) (readBlob (byPlace false)) true 4 _ (ap ofCount (c .before .e .given .1)))
 
 pub nullable-bytes-spec : {M : Type 1} → statement M
 nullable-bytes-spec =

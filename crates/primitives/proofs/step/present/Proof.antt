@@ -1,5 +1,5 @@
 use mathlib.Core.Path.{ap, sym}
-use Rattle.primitives.specs.Answers.{ofPart, somePart}
+use Rattle.primitives.specs.Answers.{ofPart, somePart, there}
 use Rattle.primitives.specs.declared.Part.{Part}
 use borrow.Author.Needs.{needs}
 use Rattle.primitives.proofs.step.present.Statement.{statement}
@@ -17,11 +17,11 @@ enum-known-p-2 c = search needs
 
 -- src/step.rt:262:1
 returns : tie.Need-returns
-returns c = sym (ap (λ (q : Part). somePart (ofPart q)) (c .before .p .given .1))
+returns c = sym (ap (λ (q : Part). there (somePart (ofPart q))) (c .before .p .given .1))
 
 -- src/step.rt:262:1
 returns-2 : tie.Need-returns-2
-returns-2 c = sym (ap (λ (q : Part). somePart (ofPart q)) (c .before .p2 .given .1))
+returns-2 c = sym (ap (λ (q : Part). there (somePart (ofPart q))) (c .before .p2 .given .1))
 
 pub present-spec : {M : Type 1} → statement M
 present-spec = tie.close (tie.spec enum-known-p enum-known-p-2 returns returns-2)
