@@ -4,10 +4,11 @@ use mathlib.Core.List.{List, List·Memᴰ, List·Memᴰ·cases-cons, List·Mem�
 use mathlib.Core.Logic.{_⊎_, inl, inr}
 use mathlib.Core.Path.{_∙_, _≡_, ap, refl, subst, sym}
 use Prim.Native.Nat.{_+_, _-_, _<_, _≤_, suc, zero, ℕ}
+use native.Mathlib.Numerals.{add-one}
 use native.Mathlib.Omega.{arith}
 use lib.Dec.{eqb, eqb·suc-zero, leb}
-use lib.ListN.{drop, length, length-append, length-drop, take, take-append-drop}
-use lib.Seq.{drop-append-seam, drop-drop, length-take-le, take-add, take-length}
+use lib.ListN.{drop, getD, length, length-append, length-drop, take, take-append-drop}
+use lib.Seq.{drop-append-seam, drop-cons, drop-drop, length-take-le, take-add, take-length}
 use borrow.Author.Tests.{eq-eqb}
 use Rattle.layout.specs.Utf8.{Range, begins, characters, first, utf8, wellFormed, wellFormedFrom, within}
 use Rattle.layout.proofs.Tests.{le-false, of-eq, of-le}
@@ -32,6 +33,19 @@ unfolding begins
 begins-fits [] s e = omega arith
 begins-fits (r ∷ rs) [] e = absurd (false≢true e)
 begins-fits (r ∷ rs) (b ∷ s) e = let h = begins-fits rs s (begins-cons r rs b s e .1) in omega arith
+
+-- a text that is too short begins with none
+pub begins-cut : (c : List Range) (s : List ℕ) → length s < length c → begins c s ≡ false
+begins-cut c s h = go (begins c s) refl
+  where
+    go : (b : Bool) → begins c s ≡ b → b ≡ false
+    go false e = refl
+    go true e = let f = begins-fits c s e in absurd (omega arith)
+
+-- one byte of it, at a place of the whole
+pub begins-at : (r : Range) (rs : List Range) (s : List ℕ) (i j : ℕ) → i < length s → j ≡ i + 1 → begins (r ∷ rs) (drop i s) ≡ (within r (getD s i 0) && begins rs (drop j s))
+unfolding begins
+begins-at r rs s i j h e = rw (e, add-one, drop-cons s i 0)
 
 begins-front : (c : List Range) (s : List ℕ) → begins c s ≡ true → begins c (take (length c) s) ≡ true
 unfolding begins
@@ -70,7 +84,7 @@ found (c ∷ cs) s h = go (begins c s) refl (λ g. found cs s g) h
     go true e f h = record { c = c; listed = List·Memᴰ·head refl; size = refl; begun = e }
     go false e f h = let k = f h in record { c = k .c; listed = List·Memᴰ·tail (k .listed); size = k .size; begun = k .begun }
 
-first-fits : (cs : List (List Range)) (s : List ℕ) → first cs s ≤ length s
+pub first-fits : (cs : List (List Range)) (s : List ℕ) → first cs s ≤ length s
 first-fits cs s = go (first cs s) refl
   where
     go : (n : ℕ) → first cs s ≡ n → first cs s ≤ length s
@@ -104,6 +118,10 @@ rising-cons n r rs cs k =
 within-low : (r : Range) (b : ℕ) → within r b ≡ true → r .0 ≤ b
 unfolding within
 within-low r b e = of-le (r .0) b (and-eq-true-iff (leb (r .0) b) (leb b (r .1)) .0 e .0)
+
+within-high : (r : Range) (b : ℕ) → within r b ≡ true → b ≤ r .1
+unfolding within
+within-high r b e = of-le b (r .1) (and-eq-true-iff (leb (r .0) b) (leb b (r .1)) .0 e .1)
 
 within-beyond : (r : Range) (b : ℕ) → r .1 < b → within r b ≡ false
 unfolding within
@@ -140,6 +158,34 @@ unfolding begins
 apart c [] e r rs cs k m = refl
 apart c (b ∷ s) e r rs cs k m = rw (within-beyond r b (begins-from c b s e (suc (r .1)) cs k m))
 
+-- ---- the first byte picks the alternative
+
+below : (n : ℕ) (cs : List (List Range)) → rising n cs ≡ true → (b : ℕ) (s : List ℕ) → b < n → first cs (b ∷ s) ≡ 0
+below n cs k b s h = go (first cs (b ∷ s)) refl
+  where
+    go : (m : ℕ) → first cs (b ∷ s) ≡ m → m ≡ 0
+    go zero e = refl
+    go (suc m) e =
+        let f = found cs (b ∷ s) (omega arith) in
+        let g = begins-from (f .c) b s (f .begun) n cs k (f .listed) in
+        absurd (omega arith)
+
+pub rising-rest : (n : ℕ) (r : Range) (rs : List Range) (cs : List (List Range)) → rising n ((r ∷ rs) ∷ cs) ≡ true → rising (suc (r .1)) cs ≡ true
+rising-rest n r rs cs k = rising-cons n r rs cs k .rest
+
+-- in its range the rest of it decides, for no later one has the byte in its range
+pub first-at : (n : ℕ) (r : Range) (rs : List Range) (cs : List (List Range)) → rising n ((r ∷ rs) ∷ cs) ≡ true → (b : ℕ) (s : List ℕ) → within r b ≡ true → first ((r ∷ rs) ∷ cs) (b ∷ s) ≡ cond (begins rs s) (suc (length rs)) 0
+unfolding first begins
+first-at n r rs cs k b s w = rw w (go (begins rs s))
+  where
+    go : (t : Bool) → cond t (suc (length rs)) (first cs (b ∷ s)) ≡ cond t (suc (length rs)) 0
+    go true = refl
+    go false = below (suc (r .1)) cs (rising-rest n r rs cs k) b s (let h = within-high r b w in omega arith)
+
+pub first-past : (r : Range) (rs : List Range) (cs : List (List Range)) (b : ℕ) (s : List ℕ) → within r b ≡ false → first ((r ∷ rs) ∷ cs) (b ∷ s) ≡ first cs (b ∷ s)
+unfolding first begins
+first-past r rs cs b s w = rw w
+
 first-is : (c : List Range) → Alternative c → (s : List ℕ) → begins c s ≡ true → first characters s ≡ length c
 first-is c m s e =
     where-listed c (λ n cs. first cs s ≡ length c)
@@ -156,12 +202,12 @@ passed zero s h = omega arith
 passed (suc k) [] h = absurd (omega arith)
 passed (suc k) (b ∷ s) h = let d = passed k s (omega arith) in omega arith
 
-front-stop : (s : List ℕ) → first characters s ≡ 0 → wellFormed s ≡ 0
+pub front-stop : (s : List ℕ) → first characters s ≡ 0 → wellFormed s ≡ 0
 unfolding wellFormed wellFormedFrom
 front-stop [] e = refl
 front-stop (b ∷ s) e = ap (λ (n : ℕ). cond (eqb n 0) 0 (suc (wellFormedFrom (n - 1) s))) e
 
-front-step : (s : List ℕ) (n : ℕ) → first characters s ≡ n → wellFormed s ≡ n + wellFormed (drop n s)
+pub front-step : (s : List ℕ) (n : ℕ) → first characters s ≡ n → wellFormed s ≡ n + wellFormed (drop n s)
 unfolding wellFormed wellFormedFrom
 front-step s zero e = omega arith
 front-step [] (suc n) e = let h = first-fits characters [] in absurd (omega arith)

@@ -6,12 +6,11 @@ use mathlib.Core.Path.{_∙_, _≡_, ap, refl, subst, sym}
 use Prim.Native.Nat.{_+_, _-_, _<_, _≤_, ℕ}
 use native.Mathlib.Nat.{add-zero, zero-add}
 use native.Mathlib.Omega.{arith}
-use lib.Dec.{eqb}
 use lib.ListN.{drop, length, take}
 use lib.Seq.{length-take-le}
 use Rattle.layout.specs.Reading.{Reader, Refusal, Res, bad, because, give, here, more, next, ok, pick, placed, primitive, raw, then}
 use Rattle.layout.specs.Primitives.{checked, sized}
-use Rattle.layout.specs.Read.{byPlace, readBlob}
+use Rattle.layout.specs.Read.{readBlob}
 use Rattle.layout.specs.Tables.{Span}
 use Rattle.layout.proofs.Local.{raw-ok}
 use Rattle.layout.proofs.Steps.{checked-inv, raw-bad, then-bad, then-ok}

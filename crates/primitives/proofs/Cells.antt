@@ -8,7 +8,7 @@ use native.Mathlib.Omega.{arith}
 use lib.Dec.{ltb}
 use lib.ListN.{drop, getD, length, length-drop, take}
 use lib.Seq.{length-take-le, take-add}
-use Rattle.layout.specs.Reading.{Refusal, Res, bad, because, give, ok, then}
+use Rattle.layout.specs.Reading.{Refusal, bad, because, give, ok}
 use Rattle.layout.specs.Primitives.{Width, be, bits, cell, flag, int, size, w64}
 use Rattle.layout.proofs.Cells.{above, extend, extend-high, extend-low}
 use Rattle.layout.proofs.Tests.{of-ge, of-lt}

@@ -2,17 +2,16 @@
 use mathlib.Core.Bool.{Bool, false, true}
 use mathlib.Core.List.{List}
 use mathlib.Core.Logic.{_≢_}
-use mathlib.Core.Option.{Option, none, some}
-use mathlib.Core.Path.{_∙_, _≡_, ap, refl, subst, sym}
+use mathlib.Core.Path.{_∙_, _≡_, ap, refl, sym}
 use Prim.Native.Nat.{_+_, _-_, _<_, _^_, _≤_, suc, zero, ℕ}
-use native.Mathlib.Nat.{add-zero, zero-add}
+use native.Mathlib.Nat.{add-zero}
 use native.Mathlib.Omega.{arith}
 use lib.Dec.{eqb, ltb}
 use lib.ListN.{drop, length, take}
 use borrow.Author.Tests.{eq-eqb, ne-eqb}
-use Rattle.layout.specs.Reading.{Reader, Refusal, Res, bad, because, fail, give, more, next, ok, pick, placed, primitive, then}
-use Rattle.layout.specs.Primitives.{Maybe, Null, Size, Width, be, bits, checked, compact, fixed, int, lengthOf, size, sized, unsigned}
-use Rattle.layout.proofs.Steps.{checked-inv, int-bad, int-ok, primitive-place, then-bad, then-ok}
+use Rattle.layout.specs.Reading.{Reader, Refusal, Res, bad, because, fail, give, more, ok, pick, placed, primitive, then}
+use Rattle.layout.specs.Primitives.{Null, Width, be, bits, checked, compact, fixed, int, lengthOf, size, unsigned}
+use Rattle.layout.proofs.Steps.{int-bad, int-ok, then-bad, then-ok}
 use Rattle.layout.proofs.Tests.{lt-false, lt-true, one-more}
 use Rattle.primitives.specs.Answers.{counted}
 

@@ -6,10 +6,6 @@ pub mod Cells
 pub mod Varint
 -- signed numbers
 pub mod Signed
--- what a writer leaves, and the lowest bytes of a number
-pub mod Stored
--- the shortest form of an unsigned varint
-pub mod Shortest
 -- a primitive called by itself
 pub mod Alone
 -- zigzag
@@ -19,5 +15,3 @@ pub mod Lengths
 pub mod Behind
 -- what is left of a slice
 pub mod Rest
--- a primitive written by a call of its own
-pub mod Answered

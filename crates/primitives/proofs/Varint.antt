@@ -1,5 +1,5 @@
 -- The loop of an unsigned varint: where it stands, and what each way out and each turn gives. b is the byte at p.
-use mathlib.Core.List.{List, []}
+use mathlib.Core.List.{List}
 use mathlib.Core.Path.{_∙_, _≡_, ap, refl, subst, sym}
 use Prim.Native.Nat.{_%_, _*_, _+_, _-_, _<_, _^_, _≤_, suc, zero, ℕ}
 use native.Mathlib.Nat.{add-zero, mul-assoc, mul-le-mul-left, mul-le-mul-right, mul-one, one-le-pow, pow-succ', pow-zero, zero-add}

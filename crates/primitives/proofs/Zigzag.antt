@@ -1,8 +1,8 @@
 -- Varint and Varlong: the number that an unsigned varint carries, and what the calls answer.
 use mathlib.Core.Bool.{Bool, cond, false, true}
 use mathlib.Core.List.{List}
-use mathlib.Core.Path.{_∙_, _≡_, ap, refl, sym}
-use Prim.Native.Nat.{_%_, _+_, _-_, _/_, _<_, _^_, _≤_, suc, ℕ}
+use mathlib.Core.Path.{_∙_, _≡_, ap, sym}
+use Prim.Native.Nat.{_%_, _+_, _-_, _/_, _<_, _^_, _≤_, ℕ}
 use native.Mathlib.Nat.{add-zero}
 use native.Mathlib.Omega.{arith}
 use lib.Dec.{eqb, ltb}
@@ -10,7 +10,7 @@ use lib.IntN.{negsuc, pos, ℤ}
 use mir.Syntax as Mir
 use mir.Val.{ofZ, toZ}
 use borrow.Author.Tests.{eq-eqb, ne-eqb}
-use Rattle.layout.specs.Reading.{Reader, Refusal, Res, bad, because, fail, give, ok, pick, placed, primitive, then}
+use Rattle.layout.specs.Reading.{Reader, Refusal, bad, because, fail, give, ok, pick, placed, primitive, then}
 use Rattle.layout.specs.Primitives.{cellOf, groups, signed, unsigned, unzigzag, varint, varlong, w64}
 use Rattle.layout.proofs.Cells.{shows-neg, shows-pos}
 use Rattle.layout.proofs.Steps.{primitive-place, then-bad, then-ok}

@@ -4,8 +4,7 @@ use Prim.Native.Nat.{_+_, ℕ}
 use lib.IntN.{ℤ}
 use lib.ListN.{drop}
 use mathlib.Core.Bool.{Bool, false, true}
-use mathlib.Core.List.{List, []}
-use Rattle.layout.specs.Answers.{Answer, accepted, refused}
+use mathlib.Core.List.{List}
 use Rattle.layout.specs.Reading.{Reader, Res, bad, more, ok, placed}
 use Rattle.layout.specs.Reading as Reading
 use Rattle.layout.specs.Primitives.{Size, checked, lengthOf, signed, unsigned, unzigzag, w64}
@@ -19,13 +18,9 @@ use Rattle.primitives.specs.declared.Number.{Number}
 use Rattle.primitives.specs.declared.Nullable.{Nullable}
 use Rattle.primitives.specs.declared.Part.{Part}
 use Rattle.primitives.specs.declared.Refusal.{Refusal}
-use Rattle.primitives.specs.declared.Written.{Written}
 
 abbrev pub ofRefusal : Refusal → Reading.Refusal
 ofRefusal e = record { number = e .number; place = e .place; need = e .need }
-
-abbrev pub noRoom : ℕ → Reading.Refusal
-noRoom n = record { number = 10; place = 0; need = n }
 
 abbrev pub ofNumber : Number → Res ℕ
 ofNumber (Number.Took v n) = ok v n
@@ -58,11 +53,6 @@ ofField (Field.Present a k) = some (some (a, k))
 abbrev pub ofNullable : Nullable → Res (Option (Option Span))
 ofNullable (Nullable.Took f n) = ok (ofField f) n
 ofNullable (Nullable.Refused e) = bad (ofRefusal e)
-
--- writers have no row to show
-abbrev pub ofWritten : Written → Answer
-ofWritten (Written.Wrote n) = accepted [] n
-ofWritten (Written.Refused e) = refused (ofRefusal e)
 
 -- the signed number that a cell shows, also in an answer
 abbrev pub shownOf : ℕ → ℤ

@@ -1,14 +1,11 @@
-// Kafka's primitive types and tagged fields, read and written.
+// Kafka's primitive types and tagged fields, read.
 // `step` reads one primitive at the front of what is left of a message; `read` has the calls, which judge the message's size first.
-// `put` writes one primitive at the front of what is left of the output; `write` has the calls, which judge the number first.
 ghost use mathlib.Core.Path.{_≡_};
 ghost use Rattle.layout.specs.Reading.{because};
-ghost use Rattle.primitives.specs.Answers.{noRoom, ofRefusal};
+ghost use Rattle.primitives.specs.Answers.{ofRefusal};
 
-pub mod put;
 pub mod read;
 pub mod step;
-pub mod write;
 
 // The numbers of docs/RULES.md, section 10.
 pub const TOO_LONG: u8 = 2;
@@ -84,12 +81,6 @@ pub enum Nullable {
     Refused(Refusal),
 }
 
-// How many bytes were written, or why none were.
-pub enum Written {
-    Wrote(usize),
-    Refused(Refusal),
-}
-
 // A refusal at a place, with no need.
 pub fn at(number: u8, place: usize) -> Refusal
     ensures { λ r. ⌜ ofRefusal r ≡ because number place ⌝ }
@@ -98,16 +89,5 @@ pub fn at(number: u8, place: usize) -> Refusal
         number,
         place,
         need: 0,
-    }
-}
-
-// A refusal for want of room, with the bytes or rows needed.
-pub fn no_room(need: usize) -> Refusal
-    ensures { λ r. ⌜ ofRefusal r ≡ noRoom need ⌝ }
-{
-    Refusal {
-        number: NO_ROOM,
-        place: 0,
-        need,
     }
 }

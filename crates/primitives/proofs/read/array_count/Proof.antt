@@ -4,10 +4,6 @@ use Rattle.primitives.proofs.Alone.{alone-long, alone-is}
 use borrow.Author.Needs.{needs}
 use Rattle.primitives.proofs.read.array_count.Statement.{statement}
 use Rattle.primitives.proofs.read.array_count.Tie as tie
-use Rattle.primitives.proofs.read.array_count.Reads as reads
-use Rattle.primitives.proofs.read.array_count.Lts as lts
-use Rattle.primitives.proofs.at.Reads as at-reads
-use Rattle.primitives.proofs.step.length32.Reads as length32-reads
 
 -- src/read.rt:151:31
 at-requires : tie.Need-at-requires

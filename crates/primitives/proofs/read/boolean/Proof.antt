@@ -3,10 +3,6 @@ use Rattle.primitives.proofs.Alone.{alone-long, alone-is}
 use borrow.Author.Needs.{needs}
 use Rattle.primitives.proofs.read.boolean.Statement.{statement}
 use Rattle.primitives.proofs.read.boolean.Tie as tie
-use Rattle.primitives.proofs.read.boolean.Reads as reads
-use Rattle.primitives.proofs.read.boolean.Lts as lts
-use Rattle.primitives.proofs.at.Reads as at-reads
-use Rattle.primitives.proofs.step.boolean.Reads as boolean-reads
 
 -- src/read.rt:74:30
 at-requires : tie.Need-at-requires

@@ -6,10 +6,6 @@ use Rattle.primitives.proofs.Alone.{alone-long, alone-is}
 use borrow.Author.Needs.{needs}
 use Rattle.primitives.proofs.read.bytes.Statement.{statement}
 use Rattle.primitives.proofs.read.bytes.Tie as tie
-use Rattle.primitives.proofs.read.bytes.Reads as reads
-use Rattle.primitives.proofs.read.bytes.Lts as lts
-use Rattle.primitives.proofs.at.Reads as at-reads
-use Rattle.primitives.proofs.step.bytes.Reads as bytes-reads
 
 -- src/read.rt:169:30
 at-requires : tie.Need-at-requires

@@ -4,10 +4,6 @@ use Rattle.primitives.proofs.Alone.{alone-long, alone-is}
 use borrow.Author.Needs.{needs}
 use Rattle.primitives.proofs.read.compact_array_count.Statement.{statement}
 use Rattle.primitives.proofs.read.compact_array_count.Tie as tie
-use Rattle.primitives.proofs.read.compact_array_count.Reads as reads
-use Rattle.primitives.proofs.read.compact_array_count.Lts as lts
-use Rattle.primitives.proofs.at.Reads as at-reads
-use Rattle.primitives.proofs.step.compact_length.Reads as compact-length-reads
 
 -- src/read.rt:160:31
 at-requires : tie.Need-at-requires

@@ -3,11 +3,6 @@ use Rattle.primitives.proofs.Alone.{alone-long, integer-is}
 use borrow.Author.Needs.{needs}
 use Rattle.primitives.proofs.read.int8.Statement.{statement}
 use Rattle.primitives.proofs.read.int8.Tie as tie
-use Rattle.primitives.proofs.read.int8.Reads as reads
-use Rattle.primitives.proofs.read.int8.Lts as lts
-use Rattle.primitives.proofs.at.Reads as at-reads
-use Rattle.primitives.proofs.read.shown.Reads as shown-reads
-use Rattle.primitives.proofs.step.int8.Reads as int8-reads
 
 -- src/read.rt:38:33
 at-requires : tie.Need-at-requires

@@ -8,10 +8,6 @@ use Rattle.primitives.proofs.Alone.{alone-long, alone-is}
 use borrow.Author.Needs.{needs}
 use Rattle.primitives.proofs.read.nullable_bytes.Statement.{statement}
 use Rattle.primitives.proofs.read.nullable_bytes.Tie as tie
-use Rattle.primitives.proofs.read.nullable_bytes.Reads as reads
-use Rattle.primitives.proofs.read.nullable_bytes.Lts as lts
-use Rattle.primitives.proofs.at.Reads as at-reads
-use Rattle.primitives.proofs.step.nullable_bytes.Reads as nullable-bytes-reads
 
 -- src/read.rt:178:34
 at-requires : tie.Need-at-requires

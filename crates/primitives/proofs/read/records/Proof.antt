@@ -6,10 +6,6 @@ use Rattle.primitives.proofs.Alone.{alone-long, alone-is}
 use borrow.Author.Needs.{needs}
 use Rattle.primitives.proofs.read.records.Statement.{statement}
 use Rattle.primitives.proofs.read.records.Tie as tie
-use Rattle.primitives.proofs.read.records.Reads as reads
-use Rattle.primitives.proofs.read.records.Lts as lts
-use Rattle.primitives.proofs.at.Reads as at-reads
-use Rattle.primitives.proofs.step.records.Reads as records-reads
 
 -- src/read.rt:196:30
 at-requires : tie.Need-at-requires

@@ -4,9 +4,6 @@ use Rattle.primitives.proofs.Signed.{shown-took}
 use borrow.Author.Needs.{needs}
 use Rattle.primitives.proofs.read.shown.Statement.{statement}
 use Rattle.primitives.proofs.read.shown.Tie as tie
-use Rattle.primitives.proofs.read.shown.Reads as reads
-use Rattle.primitives.proofs.read.shown.Lts as lts
-use Rattle.primitives.proofs.read.signed.Reads as signed-reads
 
 -- src/read.rt:26:24
 enum-known-n : tie.Need-enum-known-n

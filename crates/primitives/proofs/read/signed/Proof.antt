@@ -6,8 +6,6 @@ use Rattle.primitives.proofs.Signed.{high}
 use borrow.Author.Needs.{needs}
 use Rattle.primitives.proofs.read.signed.Statement.{statement}
 use Rattle.primitives.proofs.read.signed.Tie as tie
-use Rattle.primitives.proofs.read.signed.Reads as reads
-use Rattle.primitives.proofs.read.signed.Lts as lts
 
 -- src/read.rt:14:9
 cast-result : tie.Need-cast-result

@@ -3,10 +3,6 @@ use Rattle.primitives.proofs.Alone.{alone-long, alone-is}
 use borrow.Author.Needs.{needs}
 use Rattle.primitives.proofs.read.unsigned_varint.Statement.{statement}
 use Rattle.primitives.proofs.read.unsigned_varint.Tie as tie
-use Rattle.primitives.proofs.read.unsigned_varint.Reads as reads
-use Rattle.primitives.proofs.read.unsigned_varint.Lts as lts
-use Rattle.primitives.proofs.at.Reads as at-reads
-use Rattle.primitives.proofs.step.unsigned_varint.Reads as unsigned-varint-reads
 
 -- src/read.rt:83:32
 at-requires : tie.Need-at-requires

@@ -2,8 +2,6 @@ use Rattle.primitives.proofs.Zigzag.{even, odd}
 use borrow.Author.Needs.{needs}
 use Rattle.primitives.proofs.read.unzigzag.Statement.{statement}
 use Rattle.primitives.proofs.read.unzigzag.Tie as tie
-use Rattle.primitives.proofs.read.unzigzag.Reads as reads
-use Rattle.primitives.proofs.read.unzigzag.Lts as lts
 
 -- src/read.rt:98:9
 returns : tie.Need-returns

@@ -6,12 +6,6 @@ use Rattle.primitives.proofs.Zigzag.{carried, varlong-bad, varlong-took
 use borrow.Author.Needs.{needs}
 use Rattle.primitives.proofs.read.varlong.Statement.{statement}
 use Rattle.primitives.proofs.read.varlong.Tie as tie
-use Rattle.primitives.proofs.read.varlong.Reads as reads
-use Rattle.primitives.proofs.read.varlong.Lts as lts
-use Rattle.primitives.proofs.at.Reads as at-reads
-use Rattle.primitives.proofs.read.signed.Reads as signed-reads
-use Rattle.primitives.proofs.read.unzigzag.Reads as unzigzag-reads
-use Rattle.primitives.proofs.step.unsigned_varint.Reads as unsigned-varint-reads
 
 -- src/read.rt:107:33
 at-requires : tie.Need-at-requires

@@ -2,10 +2,6 @@ use Rattle.primitives.proofs.Cells.{flag-short, flag-is}
 use borrow.Author.Needs.{needs}
 use Rattle.primitives.proofs.step.boolean.Statement.{statement}
 use Rattle.primitives.proofs.step.boolean.Tie as tie
-use Rattle.primitives.proofs.step.boolean.Reads as reads
-use Rattle.primitives.proofs.step.boolean.Lts as lts
-use Rattle.primitives.proofs.at.Reads as at-reads
-use Rattle.primitives.proofs.step.wide.Reads as wide-reads
 
 -- src/step.rt:102:30
 at-requires : tie.Need-at-requires

@@ -1,17 +1,12 @@
-use mathlib.Core.Bool.{false, true}
+use mathlib.Core.Bool.{false}
 use mathlib.Core.Path.{ap}
-use Rattle.layout.specs.Primitives.{compact, empty, fixed, lengthOf, never, unsigned, w32}
+use Rattle.layout.specs.Primitives.{compact, lengthOf, never, unsigned}
 use Rattle.layout.specs.Read.{byPlace, readBasic, readBlob}
 use Rattle.primitives.specs.Answers.{counted, dataBehind, ofCount}
-use Rattle.primitives.proofs.Behind.{plain-below, plain-empty, plain-refused, plain-took}
+use Rattle.primitives.proofs.Behind.{plain-below, plain-refused, plain-took}
 use borrow.Author.Needs.{needs}
 use Rattle.primitives.proofs.step.compact_bytes.Statement.{statement}
 use Rattle.primitives.proofs.step.compact_bytes.Tie as tie
-use Rattle.primitives.proofs.step.compact_bytes.Reads as reads
-use Rattle.primitives.proofs.step.compact_bytes.Lts as lts
-use Rattle.primitives.proofs.at.Reads as at-reads
-use Rattle.primitives.proofs.step.compact_length.Reads as compact-length-reads
-use Rattle.primitives.proofs.step.contents.Reads as contents-reads
 
 -- src/step.rt:277:11
 compact-length-requires : tie.Need-compact-length-requires

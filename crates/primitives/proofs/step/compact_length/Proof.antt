@@ -6,9 +6,6 @@ use Rattle.primitives.proofs.Zigzag.{placed-0}
 use borrow.Author.Needs.{needs}
 use Rattle.primitives.proofs.step.compact_length.Statement.{statement}
 use Rattle.primitives.proofs.step.compact_length.Tie as tie
-use Rattle.primitives.proofs.step.compact_length.Reads as reads
-use Rattle.primitives.proofs.step.compact_length.Lts as lts
-use Rattle.primitives.proofs.step.unsigned_varint.Reads as unsigned-varint-reads
 
 -- src/step.rt:197:11
 unsigned-varint-requires : tie.Need-unsigned-varint-requires

@@ -5,10 +5,6 @@ use Rattle.primitives.proofs.Behind.{data-is, data-short}
 use borrow.Author.Needs.{needs}
 use Rattle.primitives.proofs.step.contents.Statement.{statement}
 use Rattle.primitives.proofs.step.contents.Tie as tie
-use Rattle.primitives.proofs.step.contents.Reads as reads
-use Rattle.primitives.proofs.step.contents.Lts as lts
-use Rattle.primitives.proofs.at.Reads as at-reads
-use Rattle.primitives.proofs.step.rest.Reads as rest-reads
 
 -- src/step.rt:227:9
 rest-requires : tie.Need-rest-requires

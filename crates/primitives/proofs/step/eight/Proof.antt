@@ -9,9 +9,6 @@ use Rattle.primitives.proofs.Cells.{be-8}
 use borrow.Author.Needs.{needs}
 use Rattle.primitives.proofs.step.eight.Statement.{statement}
 use Rattle.primitives.proofs.step.eight.Tie as tie
-use Rattle.primitives.proofs.step.eight.Reads as reads
-use Rattle.primitives.proofs.step.eight.Lts as lts
-use Rattle.primitives.proofs.step.four.Reads as four-reads
 
 -- src/step.rt:34:5
 four-requires : tie.Need-four-requires

@@ -3,9 +3,6 @@ use Rattle.primitives.proofs.Cells.{be-4}
 use borrow.Author.Needs.{needs}
 use Rattle.primitives.proofs.step.four.Statement.{statement}
 use Rattle.primitives.proofs.step.four.Tie as tie
-use Rattle.primitives.proofs.step.four.Reads as reads
-use Rattle.primitives.proofs.step.four.Lts as lts
-use Rattle.primitives.proofs.step.wide.Reads as wide-reads
 
 -- src/step.rt:27:12
 shared-slice-read-wide : tie.Need-shared-slice-read-wide

@@ -3,10 +3,6 @@ use Rattle.primitives.proofs.Cells.{cell-short, cell-low, cell-high}
 use borrow.Author.Needs.{needs}
 use Rattle.primitives.proofs.step.int16.Statement.{statement}
 use Rattle.primitives.proofs.step.int16.Tie as tie
-use Rattle.primitives.proofs.step.int16.Reads as reads
-use Rattle.primitives.proofs.step.int16.Lts as lts
-use Rattle.primitives.proofs.at.Reads as at-reads
-use Rattle.primitives.proofs.step.two.Reads as two-reads
 
 -- src/step.rt:57:32
 at-requires : tie.Need-at-requires

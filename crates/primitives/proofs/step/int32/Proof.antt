@@ -3,10 +3,6 @@ use Rattle.primitives.proofs.Cells.{cell-short, cell-low, cell-high}
 use borrow.Author.Needs.{needs}
 use Rattle.primitives.proofs.step.int32.Statement.{statement}
 use Rattle.primitives.proofs.step.int32.Tie as tie
-use Rattle.primitives.proofs.step.int32.Reads as reads
-use Rattle.primitives.proofs.step.int32.Lts as lts
-use Rattle.primitives.proofs.at.Reads as at-reads
-use Rattle.primitives.proofs.step.four.Reads as four-reads
 
 -- src/step.rt:73:32
 at-requires : tie.Need-at-requires

@@ -3,10 +3,6 @@ use Rattle.primitives.proofs.Cells.{cell-short, cell-whole}
 use borrow.Author.Needs.{needs}
 use Rattle.primitives.proofs.step.int64.Statement.{statement}
 use Rattle.primitives.proofs.step.int64.Tie as tie
-use Rattle.primitives.proofs.step.int64.Reads as reads
-use Rattle.primitives.proofs.step.int64.Lts as lts
-use Rattle.primitives.proofs.at.Reads as at-reads
-use Rattle.primitives.proofs.step.eight.Reads as eight-reads
 
 -- src/step.rt:89:32
 at-requires : tie.Need-at-requires

@@ -3,10 +3,6 @@ use Rattle.primitives.proofs.Cells.{be-1, cell-short, cell-low, cell-hi
 use borrow.Author.Needs.{needs}
 use Rattle.primitives.proofs.step.int8.Statement.{statement}
 use Rattle.primitives.proofs.step.int8.Tie as tie
-use Rattle.primitives.proofs.step.int8.Reads as reads
-use Rattle.primitives.proofs.step.int8.Lts as lts
-use Rattle.primitives.proofs.at.Reads as at-reads
-use Rattle.primitives.proofs.step.wide.Reads as wide-reads
 
 -- src/step.rt:41:32
 at-requires : tie.Need-at-requires

@@ -3,10 +3,6 @@ use Rattle.primitives.proofs.Lengths.{length-below, length-null, length
 use borrow.Author.Needs.{needs}
 use Rattle.primitives.proofs.step.length16.Statement.{statement}
 use Rattle.primitives.proofs.step.length16.Tie as tie
-use Rattle.primitives.proofs.step.length16.Reads as reads
-use Rattle.primitives.proofs.step.length16.Lts as lts
-use Rattle.primitives.proofs.at.Reads as at-reads
-use Rattle.primitives.proofs.step.two.Reads as two-reads
 
 -- src/step.rt:165:31
 at-requires : tie.Need-at-requires

@@ -3,10 +3,6 @@ use Rattle.primitives.proofs.Lengths.{length-below, length-null, length
 use borrow.Author.Needs.{needs}
 use Rattle.primitives.proofs.step.length32.Statement.{statement}
 use Rattle.primitives.proofs.step.length32.Tie as tie
-use Rattle.primitives.proofs.step.length32.Reads as reads
-use Rattle.primitives.proofs.step.length32.Lts as lts
-use Rattle.primitives.proofs.at.Reads as at-reads
-use Rattle.primitives.proofs.step.four.Reads as four-reads
 
 -- src/step.rt:181:31
 at-requires : tie.Need-at-requires

@@ -7,11 +7,6 @@ use Rattle.primitives.proofs.Behind.{kept-none, kept-refused, kept-took
 use borrow.Author.Needs.{needs}
 use Rattle.primitives.proofs.step.nullable_bytes.Statement.{statement}
 use Rattle.primitives.proofs.step.nullable_bytes.Tie as tie
-use Rattle.primitives.proofs.step.nullable_bytes.Reads as reads
-use Rattle.primitives.proofs.step.nullable_bytes.Lts as lts
-use Rattle.primitives.proofs.step.contents.Reads as contents-reads
-use Rattle.primitives.proofs.step.length32.Reads as length32-reads
-use Rattle.primitives.proofs.step.present.Reads as present-reads
 
 -- src/step.rt:252:11
 length32-requires : tie.Need-length32-requires

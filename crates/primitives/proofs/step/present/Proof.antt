@@ -4,8 +4,6 @@ use Rattle.primitives.specs.declared.Part.{Part}
 use borrow.Author.Needs.{needs}
 use Rattle.primitives.proofs.step.present.Statement.{statement}
 use Rattle.primitives.proofs.step.present.Tie as tie
-use Rattle.primitives.proofs.step.present.Reads as reads
-use Rattle.primitives.proofs.step.present.Lts as lts
 
 -- src/step.rt:266:22
 enum-known-p : tie.Need-enum-known-p

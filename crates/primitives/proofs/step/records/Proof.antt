@@ -1,16 +1,12 @@
 use mathlib.Core.Bool.{false, true}
 use mathlib.Core.Path.{ap}
-use Rattle.layout.specs.Primitives.{compact, empty, fixed, lengthOf, never, unsigned, w32}
+use Rattle.layout.specs.Primitives.{empty, fixed, lengthOf, unsigned, w32}
 use Rattle.layout.specs.Read.{byPlace, readBasic, readBlob}
 use Rattle.primitives.specs.Answers.{counted, dataBehind, ofCount}
-use Rattle.primitives.proofs.Behind.{plain-below, plain-empty, plain-refused, plain-took}
+use Rattle.primitives.proofs.Behind.{plain-empty, plain-refused, plain-took}
 use borrow.Author.Needs.{needs}
 use Rattle.primitives.proofs.step.records.Statement.{statement}
 use Rattle.primitives.proofs.step.records.Tie as tie
-use Rattle.primitives.proofs.step.records.Reads as reads
-use Rattle.primitives.proofs.step.records.Lts as lts
-use Rattle.primitives.proofs.step.contents.Reads as contents-reads
-use Rattle.primitives.proofs.step.length32.Reads as length32-reads
 
 -- src/step.rt:288:11
 length32-requires : tie.Need-length32-requires

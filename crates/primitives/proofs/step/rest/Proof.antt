@@ -2,8 +2,6 @@ use Rattle.primitives.proofs.Rest.{rest-in, rest-out}
 use borrow.Author.Needs.{needs}
 use Rattle.primitives.proofs.step.rest.Statement.{statement}
 use Rattle.primitives.proofs.step.rest.Tie as tie
-use Rattle.primitives.proofs.step.rest.Reads as reads
-use Rattle.primitives.proofs.step.rest.Lts as lts
 
 -- src/step.rt:218:9
 sub-result : tie.Need-sub-result

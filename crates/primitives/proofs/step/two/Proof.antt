@@ -3,9 +3,6 @@ use Rattle.primitives.proofs.Cells.{be-2}
 use borrow.Author.Needs.{needs}
 use Rattle.primitives.proofs.step.two.Statement.{statement}
 use Rattle.primitives.proofs.step.two.Tie as tie
-use Rattle.primitives.proofs.step.two.Reads as reads
-use Rattle.primitives.proofs.step.two.Lts as lts
-use Rattle.primitives.proofs.step.wide.Reads as wide-reads
 
 -- src/step.rt:20:10
 shared-slice-read-wide : tie.Need-shared-slice-read-wide

@@ -4,10 +4,6 @@ use borrow.Author.Needs.{needs}
 use Rattle.primitives.proofs.Varint.{Along, again, ended, endless, narrow, room, room-10, short, start, tenth}
 use Rattle.primitives.proofs.step.unsigned_varint.Statement.{statement}
 use Rattle.primitives.proofs.step.unsigned_varint.Tie as tie
-use Rattle.primitives.proofs.step.unsigned_varint.Reads as reads
-use Rattle.primitives.proofs.step.unsigned_varint.Lts as lts
-use Rattle.primitives.proofs.at.Reads as at-reads
-use Rattle.primitives.proofs.step.wide.Reads as wide-reads
 
 abbrev Inv-loop : tie.InvT-loop
 Inv-loop s k₀ weight₀ value₀ p₀ k weight value p = Along s k weight value p

@@ -1,0 +1,2 @@
+-- the class of a byte, by the grammar of text
+pub mod Class

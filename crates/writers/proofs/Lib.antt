@@ -1,0 +1,10 @@
+-- Laws that the functions' proofs cite, one over each thing that varies.
+
+-- what a writer leaves, and the lowest bytes of a number
+pub mod Stored
+-- the shortest form of an unsigned varint
+pub mod Shortest
+-- the cell of a number, its zigzag, and the width that holds it
+pub mod Carried
+-- a primitive written by a call of its own
+pub mod Answered

@@ -1,0 +1,16 @@
+use Rattle.writers.proofs.Answered.{told-all, told-none}
+use borrow.Author.Needs.{needs}
+use Rattle.writers.proofs.write.answer.Statement.{statement}
+use Rattle.writers.proofs.write.answer.Tie as tie
+
+returns : tie.Need-returns
+returns c = told-all _ _ (c .if1 .taken)
+
+no-room-requires : tie.Need-no-room-requires
+no-room-requires c κs = search needs
+
+returns-2 : tie.Need-returns-2
+returns-2 c = told-none _ _ _ (c .no-room .ensures) (c .before .if1 .left)
+
+pub answer-spec : {M : Type 1} → statement M
+answer-spec = tie.close (tie.spec returns no-room-requires returns-2)

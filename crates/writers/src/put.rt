@@ -1,0 +1,88 @@
+// Writers of what is left of the output: each is lent the rest behind what was written before it, and its promise speaks of that part.
+// It stores its bytes at the front where all of them fit, and nothing where they do not, and always tells how many they are.
+ghost use mathlib.Core.Path.{_≡_};
+ghost use lib.ListN.{length};
+ghost use Rattle.layout.specs.Primitives.{bytes, flagBytes, unsignedBytes};
+ghost use Rattle.writers.specs.Put.{Put};
+
+// The lowest k bytes of the cell, highest first.
+pub fn lowest(out: &mut [u8], cell: u64, k: usize) -> usize
+    ensures { λ r. ⌜ Put (bytes k cell) (now (out .entry)) r (now (out .exit)) ⌝ }
+{
+    if k <= out.len() {
+        let mut left = cell;
+        let mut p = k;
+        while 0 < p {
+            p = p - 1;
+            out[p] = (left % 256) as u8;
+            left = left / 256;
+        }
+    }
+    k
+}
+
+pub fn int8(out: &mut [u8], cell: u64) -> usize
+    ensures { λ r. ⌜ Put (bytes 1 cell) (now (out .entry)) r (now (out .exit)) ⌝ }
+{
+    lowest(out, cell, 1)
+}
+
+pub fn int16(out: &mut [u8], cell: u64) -> usize
+    ensures { λ r. ⌜ Put (bytes 2 cell) (now (out .entry)) r (now (out .exit)) ⌝ }
+{
+    lowest(out, cell, 2)
+}
+
+pub fn int32(out: &mut [u8], cell: u64) -> usize
+    ensures { λ r. ⌜ Put (bytes 4 cell) (now (out .entry)) r (now (out .exit)) ⌝ }
+{
+    lowest(out, cell, 4)
+}
+
+pub fn int64(out: &mut [u8], cell: u64) -> usize
+    ensures { λ r. ⌜ Put (bytes 8 cell) (now (out .entry)) r (now (out .exit)) ⌝ }
+{
+    lowest(out, cell, 8)
+}
+
+pub fn boolean(out: &mut [u8], value: bool) -> usize
+    ensures { λ r. ⌜ Put (flagBytes value) (now (out .entry)) r (now (out .exit)) ⌝ }
+{
+    lowest(out, value as u64, 1)
+}
+
+// How many bytes the shortest form of n has.
+pub fn varint_length(n: u64) -> usize
+    ensures { λ r. ⌜ r ≡ length (unsignedBytes n) ⌝ }
+{
+    let mut count: usize = 1;
+    let mut left = n;
+    while 128 <= left {
+        left = left / 128;
+        count = count + 1;
+    }
+    count
+}
+
+// Seven bits a byte, lowest first, in the shortest form.
+pub fn unsigned_varint(out: &mut [u8], n: u64) -> usize
+    ensures { λ r. ⌜ Put (unsignedBytes n) (now (out .entry)) r (now (out .exit)) ⌝ }
+{
+    let count = varint_length(n);
+    if count <= out.len() {
+        let mut left = n;
+        let mut p: usize = 0;
+        while 128 <= left {
+            let group = 128 + left % 128;
+            // Never: seven bits and the bit that says that more follow fit a byte.
+            if 255 < group {
+                return count;
+            }
+            out[p] = group as u8;
+            left = left / 128;
+            p = p + 1;
+        }
+        out[p] = left as u8;
+    }
+    count
+}
