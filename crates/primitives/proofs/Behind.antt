@@ -8,14 +8,15 @@ use native.Mathlib.Nat.{add-zero, zero-add}
 use native.Mathlib.Omega.{arith}
 use lib.ListN.{drop, length, take}
 use lib.Seq.{length-take-le}
-use Rattle.layout.specs.Reading.{Reader, Refusal, Res, bad, because, give, here, more, next, ok, pick, placed, primitive, raw, then}
+use Rattle.layout.specs.Reading.{Reader, Refusal, Res, bad, because, fail, give, here, more, next, ok, pick, placed, primitive, raw, then}
 use Rattle.layout.specs.Primitives.{checked, sized}
-use Rattle.layout.specs.Read.{readBlob}
+use Rattle.layout.specs.Read.{readBlob, readText}
+use Rattle.layout.specs.Utf8.{utf8}
 use Rattle.layout.specs.Tables.{Span}
 use Rattle.layout.proofs.Local.{raw-ok}
 use Rattle.layout.proofs.Steps.{checked-inv, raw-bad, then-bad, then-ok}
 use Rattle.layout.proofs.Tests.{one-more}
-use Rattle.primitives.specs.Answers.{dataBehind, ofCount, somePart}
+use Rattle.primitives.specs.Answers.{dataBehind, ofCount, somePart, textBehind}
 use Rattle.primitives.specs.declared.Count.{Count}
 use Rattle.primitives.proofs.Lengths.{checked-bad, checked-never, checked-null, checked-some, length-bad}
 
@@ -107,13 +108,41 @@ module _ (len : Reader ℕ) (s : List ℕ) (r : Count) (h : ofCount r ≡ checke
 -- ---- the contents
 
 module _ (s left : List ℕ) (u n : ℕ) (i : left ≡ drop u s) where
+  -- made by G of the place and the bytes
+  abbrev part : (ℕ → List ℕ → Reader Span) → Res Span
+  part G = placed 0 (more u (here (λ p. then (raw n) (G p)) u (drop u s)))
+
+  part-short : (G : ℕ → List ℕ → Reader Span) (c : Refusal) → c ≡ because 3 0 → length left < n → bad c ≡ part G
+  unfolding here
+  part-short G c e h = ap bad e ∙ sym (ap (λ o. placed 0 (more u o)) (then-bad (raw n) _ u (drop u s) (because 3 u) (raw-bad n u (drop u s) (subst (λ (t : List ℕ). length t < n) i h))))
+
+  part-is : (G : ℕ → List ℕ → Reader Span) → n ≤ length left → part G ≡ placed 0 (more u (more n (G u (take n (drop u s)) (u + n) (drop n (drop u s)))))
+  unfolding here
+  part-is G h = ap (λ o. placed 0 (more u o)) (then-ok (raw n) _ u (drop u s) (take n (drop u s)) n (raw-ok n u (drop u s) (subst (λ (t : List ℕ). n ≤ length t) i h)))
+
+  shown : n ≤ length left → _≡_ {A = Res Span} (ok (u, length (take n (drop u s))) (u + (n + 0))) (ok (u, n) (u + n))
+  shown h = λ t. ok (u, length-take-le n (drop u s) (subst (λ (q : List ℕ). n ≤ length q) i h) t) (u + add-zero n t)
+
   pub data-short : (c : Refusal) → c ≡ because 3 0 → length left < n → bad c ≡ dataBehind u n s
-  unfolding dataBehind readBlob here
-  data-short c e h = ap bad e ∙ sym (ap (λ o. placed 0 (more u o)) (then-bad (raw n) _ u (drop u s) (because 3 u) (raw-bad n u (drop u s) (subst (λ (t : List ℕ). length t < n) i h))))
+  unfolding dataBehind readBlob
+  data-short = part-short (λ p b. give (p, length b))
 
   pub data-is : n ≤ length left → ok (u, n) (u + n) ≡ dataBehind u n s
-  unfolding dataBehind readBlob here give
-  data-is h =
-      let g : n ≤ length (drop u s) = subst (λ (t : List ℕ). n ≤ length t) i h in
-      let l : length (take n (drop u s)) ≡ n = length-take-le n (drop u s) g in
-      sym (ap (λ o. placed 0 (more u o)) (then-ok (raw n) _ u (drop u s) (take n (drop u s)) n (raw-ok n u (drop u s) g)) ∙ (λ t. ok (u, l t) (u + add-zero n t)))
+  unfolding dataBehind readBlob give
+  data-is h = sym (part-is (λ p b. give (p, length b)) h ∙ shown h)
+
+  -- text, well-formed or not
+  abbrev judge : ℕ → List ℕ → Reader Span
+  judge p b = pick (utf8 b) (give (p, length b)) (fail 7)
+
+  pub text-short : (c : Refusal) → c ≡ because 3 0 → length left < n → bad c ≡ textBehind u n s
+  unfolding textBehind readText
+  text-short = part-short judge
+
+  pub text-is : n ≤ length left → true ≡ utf8 (take n left) → ok (u, n) (u + n) ≡ textBehind u n s
+  unfolding textBehind readText pick give
+  text-is h w = sym (part-is judge h ∙ rw (ap (λ (t : List ℕ). utf8 (take n t)) (sym i) ∙ sym w) (shown h))
+
+  pub text-not : n ≤ length left → false ≡ utf8 (take n left) → (c : Refusal) → c ≡ because 7 0 → bad c ≡ textBehind u n s
+  unfolding textBehind readText pick fail
+  text-not h w c e = ap bad e ∙ sym (part-is judge h ∙ rw (ap (λ (t : List ℕ). utf8 (take n t)) (sym i) ∙ sym w))

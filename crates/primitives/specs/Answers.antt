@@ -8,7 +8,7 @@ use mathlib.Core.List.{List}
 use Rattle.layout.specs.Reading.{Reader, Res, bad, more, ok, placed}
 use Rattle.layout.specs.Reading as Reading
 use Rattle.layout.specs.Primitives.{Size, checked, lengthOf, signed, unsigned, unzigzag, w64}
-use Rattle.layout.specs.Read.{byPlace, readBlob}
+use Rattle.layout.specs.Read.{byPlace, readBlob, readText}
 use Rattle.layout.specs.Tables.{Span}
 use Rattle.primitives.specs.declared.Count.{Count}
 use Rattle.primitives.specs.declared.Field.{Field}
@@ -73,6 +73,10 @@ counted z = checked true 4 (lengthOf unsigned z)
 -- data of n bytes behind the u bytes of its length, refused at the length's start
 unfoldable pub dataBehind : ℕ → ℕ → List ℕ → Res Span
 dataBehind u n s = placed 0 (more u (readBlob (byPlace false) n u (drop u s)))
+
+-- text of n bytes, likewise
+unfoldable pub textBehind : ℕ → ℕ → List ℕ → Res Span
+textBehind u n s = placed 0 (more u (readText (byPlace false) n u (drop u s)))
 
 abbrev pub somePart : Res Span → Res (Option Span)
 somePart (ok x n) = ok (some x) n

@@ -2,7 +2,7 @@
 ghost use mathlib.Core.Path.{_≡_};
 ghost use mathlib.Core.Bool.{false};
 ghost use Rattle.layout.specs.Primitives.{cellOf, compact, empty, fixed, flag, integer, kept, never, unsigned, varint, varlong, w8, w16, w32, w64};
-ghost use Rattle.layout.specs.Rows.{blob};
+ghost use Rattle.layout.specs.Rows.{blob, text};
 ghost use Rattle.layout.specs.Read.{byPlace, readBasic};
 ghost use Rattle.layout.specs.Answers.{alone};
 ghost use Rattle.primitives.specs.Answers.{counted, ofCount, ofFlag, ofInteger, ofNullable, ofNumber, ofPart, ofShown, shownOf, there, zigzagged};
@@ -196,4 +196,42 @@ pub fn records(msg: &[u8]) -> Part
         return Part::Refused(at(TOO_LONG, 0));
     }
     step::records(msg)
+}
+
+// ---- texts
+
+pub fn string(msg: &[u8]) -> Part
+    ensures { λ r. ⌜ ofPart r ≡ alone (readBasic (byPlace false) (text (fixed w16 never))) (now (msg .entry)) ⌝ }
+{
+    if MOST < msg.len() {
+        return Part::Refused(at(TOO_LONG, 0));
+    }
+    step::string(msg)
+}
+
+pub fn nullable_string(msg: &[u8]) -> Nullable
+    ensures { λ r. ⌜ ofNullable r ≡ there (alone (readBasic (byPlace false) (text (fixed w16 kept))) (now (msg .entry))) ⌝ }
+{
+    if MOST < msg.len() {
+        return Nullable::Refused(at(TOO_LONG, 0));
+    }
+    step::nullable_string(msg)
+}
+
+pub fn compact_string(msg: &[u8]) -> Part
+    ensures { λ r. ⌜ ofPart r ≡ alone (readBasic (byPlace false) (text (compact never))) (now (msg .entry)) ⌝ }
+{
+    if MOST < msg.len() {
+        return Part::Refused(at(TOO_LONG, 0));
+    }
+    step::compact_string(msg)
+}
+
+pub fn compact_nullable_string(msg: &[u8]) -> Nullable
+    ensures { λ r. ⌜ ofNullable r ≡ there (alone (readBasic (byPlace false) (text (compact kept))) (now (msg .entry))) ⌝ }
+{
+    if MOST < msg.len() {
+        return Nullable::Refused(at(TOO_LONG, 0));
+    }
+    step::compact_nullable_string(msg)
 }

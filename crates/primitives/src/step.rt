@@ -4,15 +4,16 @@ ghost use mathlib.Core.Bool.{false};
 ghost use Prim.Native.Nat.{_+_, _*_, _<_, _≤_};
 ghost use lib.ListN.{drop, length, take};
 ghost use Rattle.layout.specs.Primitives.{be, cell, compact, empty, fixed, flag, kept, never, unsigned, w8, w16, w32, w64};
-ghost use Rattle.layout.specs.Rows.{blob};
+ghost use Rattle.layout.specs.Rows.{blob, text};
 ghost use Rattle.layout.specs.Read.{byPlace, readBasic};
-ghost use Rattle.primitives.specs.Answers.{counted, dataBehind, ofCount, ofFlag, ofNullable, ofNumber, ofPart, somePart, there};
+ghost use Rattle.primitives.specs.Answers.{counted, dataBehind, ofCount, ofFlag, ofNullable, ofNumber, ofPart, somePart, textBehind, there};
 use crate::BYTES_END;
 use crate::Count;
 use crate::Field;
 use crate::Flag;
 use crate::LENGTH_BELOW;
 use crate::LENGTH_ZERO;
+use crate::NOT_TEXT;
 use crate::Nullable;
 use crate::Number;
 use crate::Part;
@@ -289,5 +290,71 @@ pub fn records(s: &[u8]) -> Part
         Count::Took { count, used } => contents(s, used, count),
         Count::Null { used } => contents(s, used, 0),
         Count::Refused(e) => Part::Refused(e),
+    }
+}
+
+// ---- texts: data that must be well-formed
+
+fn characters(s: &[u8], used: usize, count: u64) -> Part
+    ensures { λ r. ⌜ ofPart r ≡ textBehind used count (now (s .entry)) ⌝ }
+{
+    let left = rest(s, used);
+    if (left.len() as u64) < count {
+        return Part::Refused(at(BYTES_END, 0));
+    }
+    let len = count as usize;
+    if utf8::is_text(&left[..len]) {
+        return Part::Took {
+            start: used,
+            len,
+            used: used + len,
+        };
+    }
+    Part::Refused(at(NOT_TEXT, 0))
+}
+
+pub fn string(s: &[u8]) -> Part
+    ensures { λ r. ⌜ ofPart r ≡ readBasic (byPlace false) (text (fixed w16 never)) 0 (now (s .entry)) ⌝ }
+{
+    match length16(s) {
+        Count::Took { count, used } => characters(s, used, count),
+        Count::Null { used: _ } => Part::Refused(at(LENGTH_BELOW, 0)),
+        Count::Refused(e) => Part::Refused(e),
+    }
+}
+
+pub fn compact_string(s: &[u8]) -> Part
+    ensures { λ r. ⌜ ofPart r ≡ readBasic (byPlace false) (text (compact never)) 0 (now (s .entry)) ⌝ }
+{
+    match compact_length(s) {
+        Count::Took { count, used } => characters(s, used, count),
+        Count::Null { used: _ } => Part::Refused(at(LENGTH_ZERO, 0)),
+        Count::Refused(e) => Part::Refused(e),
+    }
+}
+
+pub fn nullable_string(s: &[u8]) -> Nullable
+    ensures { λ r. ⌜ ofNullable r ≡ there (readBasic (byPlace false) (text (fixed w16 kept)) 0 (now (s .entry))) ⌝ }
+{
+    match length16(s) {
+        Count::Took { count, used } => present(characters(s, used, count)),
+        Count::Null { used } => Nullable::Took {
+            field: Field::Null,
+            used,
+        },
+        Count::Refused(e) => Nullable::Refused(e),
+    }
+}
+
+pub fn compact_nullable_string(s: &[u8]) -> Nullable
+    ensures { λ r. ⌜ ofNullable r ≡ there (readBasic (byPlace false) (text (compact kept)) 0 (now (s .entry))) ⌝ }
+{
+    match compact_length(s) {
+        Count::Took { count, used } => present(characters(s, used, count)),
+        Count::Null { used } => Nullable::Took {
+            field: Field::Null,
+            used,
+        },
+        Count::Refused(e) => Nullable::Refused(e),
     }
 }

@@ -7,19 +7,15 @@ use borrow.Author.Needs.{needs}
 use Rattle.primitives.proofs.read.bytes.Statement.{statement}
 use Rattle.primitives.proofs.read.bytes.Tie as tie
 
--- src/read.rt:169:30
 at-requires : tie.Need-at-requires
 at-requires c κs = search needs
 
--- src/read.rt:169:9
 returns : tie.Need-returns
 returns c = alone-long (readBasic (byPlace false) (blob (fixed w32 never))) _ _ (c .at .ensures) (search needs)
 
--- src/read.rt:171:5
 bytes-requires : tie.Need-bytes-requires
 bytes-requires c κs = search needs
 
--- src/read.rt:165:1
 returns-2 : tie.Need-returns-2
 returns-2 c = alone-is (readBasic (byPlace false) (blob (fixed w32 never))) _ (search needs) _ (c .bytes .ensures)
 

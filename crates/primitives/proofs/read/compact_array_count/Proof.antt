@@ -5,19 +5,15 @@ use borrow.Author.Needs.{needs}
 use Rattle.primitives.proofs.read.compact_array_count.Statement.{statement}
 use Rattle.primitives.proofs.read.compact_array_count.Tie as tie
 
--- src/read.rt:160:31
 at-requires : tie.Need-at-requires
 at-requires c κs = search needs
 
--- src/read.rt:160:9
 returns : tie.Need-returns
 returns c = alone-long (counted (compact kept)) _ _ (c .at .ensures) (search needs)
 
--- src/read.rt:162:5
 compact-length-requires : tie.Need-compact-length-requires
 compact-length-requires c κs = search needs
 
--- src/read.rt:156:1
 returns-2 : tie.Need-returns-2
 returns-2 c = alone-is (counted (compact kept)) _ (search needs) _ (c .compact-length .ensures)
 

@@ -7,19 +7,15 @@ use borrow.Author.Needs.{needs}
 use Rattle.primitives.proofs.read.compact_bytes.Statement.{statement}
 use Rattle.primitives.proofs.read.compact_bytes.Tie as tie
 
--- src/read.rt:187:30
 at-requires : tie.Need-at-requires
 at-requires c κs = search needs
 
--- src/read.rt:187:9
 returns : tie.Need-returns
 returns c = alone-long (readBasic (byPlace false) (blob (compact never))) _ _ (c .at .ensures) (search needs)
 
--- src/read.rt:189:5
 compact-bytes-requires : tie.Need-compact-bytes-requires
 compact-bytes-requires c κs = search needs
 
--- src/read.rt:183:1
 returns-2 : tie.Need-returns-2
 returns-2 c = alone-is (readBasic (byPlace false) (blob (compact never))) _ (search needs) _ (c .compact-bytes .ensures)
 

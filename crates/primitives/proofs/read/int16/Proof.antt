@@ -4,23 +4,18 @@ use borrow.Author.Needs.{needs}
 use Rattle.primitives.proofs.read.int16.Statement.{statement}
 use Rattle.primitives.proofs.read.int16.Tie as tie
 
--- src/read.rt:47:33
 at-requires : tie.Need-at-requires
 at-requires c κs = search needs
 
--- src/read.rt:47:9
 returns : tie.Need-returns
 returns c = alone-long (integer w16) _ _ (c .at .ensures) (search needs)
 
--- src/read.rt:49:11
 int16-requires : tie.Need-int16-requires
 int16-requires c κs = search needs
 
--- src/read.rt:49:5
 shown-requires : tie.Need-shown-requires
 shown-requires c κs = search needs
 
--- src/read.rt:43:1
 returns-2 : tie.Need-returns-2
 returns-2 c = integer-is w16 _ (c .before .int16 .result) (c .shown .result) (c .before .before .before .shared-slice-known .given) (c .before .int16 .ensures) (c .shown .ensures) (search needs)
 

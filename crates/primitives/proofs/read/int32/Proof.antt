@@ -4,23 +4,18 @@ use borrow.Author.Needs.{needs}
 use Rattle.primitives.proofs.read.int32.Statement.{statement}
 use Rattle.primitives.proofs.read.int32.Tie as tie
 
--- src/read.rt:56:33
 at-requires : tie.Need-at-requires
 at-requires c κs = search needs
 
--- src/read.rt:56:9
 returns : tie.Need-returns
 returns c = alone-long (integer w32) _ _ (c .at .ensures) (search needs)
 
--- src/read.rt:58:11
 int32-requires : tie.Need-int32-requires
 int32-requires c κs = search needs
 
--- src/read.rt:58:5
 shown-requires : tie.Need-shown-requires
 shown-requires c κs = search needs
 
--- src/read.rt:52:1
 returns-2 : tie.Need-returns-2
 returns-2 c = integer-is w32 _ (c .before .int32 .result) (c .shown .result) (c .before .before .before .shared-slice-known .given) (c .before .int32 .ensures) (c .shown .ensures) (search needs)
 

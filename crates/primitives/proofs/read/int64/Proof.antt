@@ -4,23 +4,18 @@ use borrow.Author.Needs.{needs}
 use Rattle.primitives.proofs.read.int64.Statement.{statement}
 use Rattle.primitives.proofs.read.int64.Tie as tie
 
--- src/read.rt:65:33
 at-requires : tie.Need-at-requires
 at-requires c κs = search needs
 
--- src/read.rt:65:9
 returns : tie.Need-returns
 returns c = alone-long (integer w64) _ _ (c .at .ensures) (search needs)
 
--- src/read.rt:67:11
 int64-requires : tie.Need-int64-requires
 int64-requires c κs = search needs
 
--- src/read.rt:67:5
 shown-requires : tie.Need-shown-requires
 shown-requires c κs = search needs
 
--- src/read.rt:61:1
 returns-2 : tie.Need-returns-2
 returns-2 c = integer-is w64 _ (c .before .int64 .result) (c .shown .result) (c .before .before .before .shared-slice-known .given) (c .before .int64 .ensures) (c .shown .ensures) (search needs)
 

@@ -4,23 +4,18 @@ use borrow.Author.Needs.{needs}
 use Rattle.primitives.proofs.read.int8.Statement.{statement}
 use Rattle.primitives.proofs.read.int8.Tie as tie
 
--- src/read.rt:38:33
 at-requires : tie.Need-at-requires
 at-requires c κs = search needs
 
--- src/read.rt:38:9
 returns : tie.Need-returns
 returns c = alone-long (integer w8) _ _ (c .at .ensures) (search needs)
 
--- src/read.rt:40:11
 int8-requires : tie.Need-int8-requires
 int8-requires c κs = search needs
 
--- src/read.rt:40:5
 shown-requires : tie.Need-shown-requires
 shown-requires c κs = search needs
 
--- src/read.rt:34:1
 returns-2 : tie.Need-returns-2
 returns-2 c = integer-is w8 _ (c .before .int8 .result) (c .shown .result) (c .before .before .before .shared-slice-known .given) (c .before .int8 .ensures) (c .shown .ensures) (search needs)
 

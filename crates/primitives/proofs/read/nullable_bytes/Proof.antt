@@ -9,19 +9,15 @@ use borrow.Author.Needs.{needs}
 use Rattle.primitives.proofs.read.nullable_bytes.Statement.{statement}
 use Rattle.primitives.proofs.read.nullable_bytes.Tie as tie
 
--- src/read.rt:178:34
 at-requires : tie.Need-at-requires
 at-requires c κs = search needs
 
--- src/read.rt:178:9
 returns : tie.Need-returns
 returns c = ap there (alone-long (readBasic (byPlace false) (blob (fixed w32 kept))) _ _ (c .at .ensures) (search needs))
 
--- src/read.rt:180:5
 nullable-bytes-requires : tie.Need-nullable-bytes-requires
 nullable-bytes-requires c κs = search needs
 
--- src/read.rt:174:1
 returns-2 : tie.Need-returns-2
 returns-2 c = c .nullable-bytes .ensures ∙ ap there (alone-is (readBasic (byPlace false) (blob (fixed w32 kept))) _ (search needs) _ refl)
 

@@ -7,19 +7,15 @@ use borrow.Author.Needs.{needs}
 use Rattle.primitives.proofs.read.records.Statement.{statement}
 use Rattle.primitives.proofs.read.records.Tie as tie
 
--- src/read.rt:196:30
 at-requires : tie.Need-at-requires
 at-requires c κs = search needs
 
--- src/read.rt:196:9
 returns : tie.Need-returns
 returns c = alone-long (readBasic (byPlace false) (blob (fixed w32 empty))) _ _ (c .at .ensures) (search needs)
 
--- src/read.rt:198:5
 records-requires : tie.Need-records-requires
 records-requires c κs = search needs
 
--- src/read.rt:192:1
 returns-2 : tie.Need-returns-2
 returns-2 c = alone-is (readBasic (byPlace false) (blob (fixed w32 empty))) _ (search needs) _ (c .records .ensures)
 

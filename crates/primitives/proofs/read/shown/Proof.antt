@@ -5,23 +5,18 @@ use borrow.Author.Needs.{needs}
 use Rattle.primitives.proofs.read.shown.Statement.{statement}
 use Rattle.primitives.proofs.read.shown.Tie as tie
 
--- src/read.rt:26:24
 enum-known-n : tie.Need-enum-known-n
 enum-known-n c = search needs
 
--- src/read.rt:27:20
 signed-requires : tie.Need-signed-requires
 signed-requires c κs = search needs
 
--- src/read.rt:30:25
 enum-known-n-2 : tie.Need-enum-known-n-2
 enum-known-n-2 c = search needs
 
--- src/read.rt:22:1
 returns : tie.Need-returns
 returns c = shown-took _ _ _ (c .signed .result) (c .before .before .n .given .1) (c .signed .ensures) (search needs)
 
--- src/read.rt:22:1
 returns-2 : tie.Need-returns-2
 returns-2 c = sym (ap ofShown (c .before .n2 .given .1))
 

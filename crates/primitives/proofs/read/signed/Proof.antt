@@ -7,27 +7,21 @@ use borrow.Author.Needs.{needs}
 use Rattle.primitives.proofs.read.signed.Statement.{statement}
 use Rattle.primitives.proofs.read.signed.Tie as tie
 
--- src/read.rt:14:9
 cast-result : tie.Need-cast-result
 cast-result c = search needs
 
--- src/read.rt:16:15
 sub-result : tie.Need-sub-result
 sub-result c = search needs
 
--- src/read.rt:16:14
 cast-result-2 : tie.Need-cast-result-2
 cast-result-2 c = search needs
 
--- src/read.rt:16:9
 sub-result-2 : tie.Need-sub-result-2
 sub-result-2 c = high _ (c .if1 .left) (c .before .fits .c .fits) .small
 
--- src/read.rt:10:1
 returns : tie.Need-returns
 returns c = sym (signed-is Kafka.w64 (c .before .args .c))
 
--- src/read.rt:10:1
 returns-2 : tie.Need-returns-2
 returns-2 c = let h = high _ (c .if1 .left) (c .before .fits .c .fits) in toZ-ofZ (h .small) ∙ h .is
 

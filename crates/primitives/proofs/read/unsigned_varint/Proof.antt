@@ -4,19 +4,15 @@ use borrow.Author.Needs.{needs}
 use Rattle.primitives.proofs.read.unsigned_varint.Statement.{statement}
 use Rattle.primitives.proofs.read.unsigned_varint.Tie as tie
 
--- src/read.rt:83:32
 at-requires : tie.Need-at-requires
 at-requires c κs = search needs
 
--- src/read.rt:83:9
 returns : tie.Need-returns
 returns c = alone-long unsigned _ _ (c .at .ensures) (search needs)
 
--- src/read.rt:85:5
 unsigned-varint-requires : tie.Need-unsigned-varint-requires
 unsigned-varint-requires c κs = search needs
 
--- src/read.rt:79:1
 returns-2 : tie.Need-returns-2
 returns-2 c = alone-is unsigned _ (search needs) _ (c .«unsigned-varint» .ensures)
 

@@ -7,51 +7,40 @@ use borrow.Author.Needs.{needs}
 use Rattle.primitives.proofs.read.varint.Statement.{statement}
 use Rattle.primitives.proofs.read.varint.Tie as tie
 
--- src/read.rt:123:33
 at-requires : tie.Need-at-requires
 at-requires c κs = search needs
 
--- src/read.rt:123:9
 returns : tie.Need-returns
 returns c = alone-long varint _ _ (c .at .ensures) (search needs)
 
--- src/read.rt:125:11
 unsigned-varint-requires : tie.Need-unsigned-varint-requires
 unsigned-varint-requires c κs = search needs
 
--- src/read.rt:126:24
 enum-known-value : tie.Need-enum-known-value
 enum-known-value c = search needs
 
--- src/read.rt:128:41
 at-requires-2 : tie.Need-at-requires-2
 at-requires-2 c κs = search needs
 
--- src/read.rt:128:17
 returns-2 : tie.Need-returns-2
 returns-2 c =
     alone-is varint _ (search needs) _
     (varint-wide _ _ _ _ (sym (c .before .before .before .before .before .unsigned-varint .ensures) ∙ ap ofNumber (c .before .before .before .value .given .1)) (c .before .if2 .taken) (c .at2 .ensures))
 
--- src/read.rt:131:31
 unzigzag-requires : tie.Need-unzigzag-requires
 unzigzag-requires c κs = search needs
 
--- src/read.rt:131:24
 signed-requires : tie.Need-signed-requires
 signed-requires c κs = search needs
 
--- src/read.rt:135:25
 enum-known-e : tie.Need-enum-known-e
 enum-known-e c = search needs
 
--- src/read.rt:119:1
 returns-3 : tie.Need-returns-3
 returns-3 c =
     alone-is varint _ (search needs) _
     (varint-took _ _ _ _ (sym (c .before .before .before .before .before .before .unsigned-varint .ensures) ∙ ap ofNumber (c .before .before .before .before .value .given .1)) (c .before .before .if2 .left) (carried _ _ (c .signed .result) (search needs) (search needs) (c .before .unzigzag .ensures) (c .signed .ensures)))
 
--- src/read.rt:119:1
 returns-4 : tie.Need-returns-4
 returns-4 c = alone-is varint _ (search needs) _ (varint-bad _ _ (sym (c .before .before .before .unsigned-varint .ensures) ∙ ap ofNumber (c .before .e .given .1)))
 

@@ -7,41 +7,32 @@ use borrow.Author.Needs.{needs}
 use Rattle.primitives.proofs.read.varlong.Statement.{statement}
 use Rattle.primitives.proofs.read.varlong.Tie as tie
 
--- src/read.rt:107:33
 at-requires : tie.Need-at-requires
 at-requires c κs = search needs
 
--- src/read.rt:107:9
 returns : tie.Need-returns
 returns c = alone-long varlong _ _ (c .at .ensures) (search needs)
 
--- src/read.rt:109:11
 unsigned-varint-requires : tie.Need-unsigned-varint-requires
 unsigned-varint-requires c κs = search needs
 
--- src/read.rt:110:24
 enum-known-value : tie.Need-enum-known-value
 enum-known-value c = search needs
 
--- src/read.rt:111:27
 unzigzag-requires : tie.Need-unzigzag-requires
 unzigzag-requires c κs = search needs
 
--- src/read.rt:111:20
 signed-requires : tie.Need-signed-requires
 signed-requires c κs = search needs
 
--- src/read.rt:114:25
 enum-known-e : tie.Need-enum-known-e
 enum-known-e c = search needs
 
--- src/read.rt:103:1
 returns-2 : tie.Need-returns-2
 returns-2 c =
     alone-is varlong _ (search needs) _
     (varlong-took _ _ _ _ (sym (c .before .before .before .before .before .unsigned-varint .ensures) ∙ ap ofNumber (c .before .before .before .value .given .1)) (carried _ _ (c .signed .result) (search needs) (search needs) (c .before .unzigzag .ensures) (c .signed .ensures)))
 
--- src/read.rt:103:1
 returns-3 : tie.Need-returns-3
 returns-3 c = alone-is varlong _ (search needs) _ (varlong-bad _ _ (sym (c .before .before .before .unsigned-varint .ensures) ∙ ap ofNumber (c .before .e .given .1)))
 

@@ -3,23 +3,18 @@ use borrow.Author.Needs.{needs}
 use Rattle.primitives.proofs.step.boolean.Statement.{statement}
 use Rattle.primitives.proofs.step.boolean.Tie as tie
 
--- src/step.rt:102:30
 at-requires : tie.Need-at-requires
 at-requires c κs = search needs
 
--- src/step.rt:102:9
 returns : tie.Need-returns
 returns c = flag-short _ _ (c .at .ensures) (search needs)
 
--- src/step.rt:105:25
 shared-slice-read-wide : tie.Need-shared-slice-read-wide
 shared-slice-read-wide c = search needs
 
--- src/step.rt:105:20
 wide-requires : tie.Need-wide-requires
 wide-requires c κs = search needs
 
--- src/step.rt:98:1
 returns-2 : tie.Need-returns-2
 returns-2 c = flag-is (c .before .before .before .before .args .s .now) (c .wide .result) (search needs) (c .wide .ensures .0)
 

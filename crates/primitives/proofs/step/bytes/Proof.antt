@@ -8,41 +8,32 @@ use borrow.Author.Needs.{needs}
 use Rattle.primitives.proofs.step.bytes.Statement.{statement}
 use Rattle.primitives.proofs.step.bytes.Tie as tie
 
--- src/step.rt:242:11
 length32-requires : tie.Need-length32-requires
 length32-requires c κs = search needs
 
--- src/step.rt:243:23
 enum-known-count : tie.Need-enum-known-count
 enum-known-count c = search needs
 
--- src/step.rt:243:40
 contents-requires : tie.Need-contents-requires
 contents-requires c κs = search needs
 
--- src/step.rt:244:50
 enum-told : tie.Need-enum-told
 enum-told c = search needs
 
--- src/step.rt:244:50
 at-requires : tie.Need-at-requires
 at-requires c κs = search needs
 
--- src/step.rt:245:24
 enum-known-e : tie.Need-enum-known-e
 enum-known-e c = search needs
 
--- src/step.rt:239:1
 returns : tie.Need-returns
 unfolding readBasic counted dataBehind lengthOf
 returns c = plain-took (lengthOf unsigned (fixed w32 never)) _ _ (c .before .before .before .before .length32 .ensures) (readBlob (byPlace false)) false 4 _ _ (c .before .before .count .given .1) _ (c .contents .ensures)
 
--- src/step.rt:239:1
 returns-2 : tie.Need-returns-2
 unfolding readBasic counted dataBehind lengthOf
 returns-2 c = plain-below (lengthOf unsigned (fixed w32 never)) _ _ (c .before .before .before .length32 .ensures) (readBlob (byPlace false)) 4 _ (c .before .enum-told .given .1) _ (c .at .ensures)
 
--- src/step.rt:239:1
 returns-3 : tie.Need-returns-3
 unfolding readBasic counted dataBehind lengthOf
 returns-3 c = plain-refused (lengthOf unsigned (fixed w32 never)) _ (c .before .before .before .length32 .result) (c .before .before .before .length32 .ensures) (readBlob (byPlace false)) false 4 _ (ap ofCount (c .before .e .given .1))

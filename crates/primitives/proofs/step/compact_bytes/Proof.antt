@@ -8,41 +8,32 @@ use borrow.Author.Needs.{needs}
 use Rattle.primitives.proofs.step.compact_bytes.Statement.{statement}
 use Rattle.primitives.proofs.step.compact_bytes.Tie as tie
 
--- src/step.rt:277:11
 compact-length-requires : tie.Need-compact-length-requires
 compact-length-requires c κs = search needs
 
--- src/step.rt:278:23
 enum-known-count : tie.Need-enum-known-count
 enum-known-count c = search needs
 
--- src/step.rt:278:40
 contents-requires : tie.Need-contents-requires
 contents-requires c κs = search needs
 
--- src/step.rt:279:50
 enum-told : tie.Need-enum-told
 enum-told c = search needs
 
--- src/step.rt:279:50
 at-requires : tie.Need-at-requires
 at-requires c κs = search needs
 
--- src/step.rt:280:24
 enum-known-e : tie.Need-enum-known-e
 enum-known-e c = search needs
 
--- src/step.rt:274:1
 returns : tie.Need-returns
 unfolding readBasic counted dataBehind lengthOf
 returns c = plain-took (lengthOf unsigned (compact never)) _ _ (c .before .before .before .before .compact-length .ensures) (readBlob (byPlace false)) false 6 _ _ (c .before .before .count .given .1) _ (c .contents .ensures)
 
--- src/step.rt:274:1
 returns-2 : tie.Need-returns-2
 unfolding readBasic counted dataBehind lengthOf
 returns-2 c = plain-below (lengthOf unsigned (compact never)) _ _ (c .before .before .before .compact-length .ensures) (readBlob (byPlace false)) 6 _ (c .before .enum-told .given .1) _ (c .at .ensures)
 
--- src/step.rt:274:1
 returns-3 : tie.Need-returns-3
 unfolding readBasic counted dataBehind lengthOf
 returns-3 c = plain-refused (lengthOf unsigned (compact never)) _ (c .before .before .before .compact-length .result) (c .before .before .before .compact-length .ensures) (readBlob (byPlace false)) false 6 _ (ap ofCount (c .before .e .given .1))

@@ -7,31 +7,24 @@ use borrow.Author.Needs.{needs}
 use Rattle.primitives.proofs.step.compact_length.Statement.{statement}
 use Rattle.primitives.proofs.step.compact_length.Tie as tie
 
--- src/step.rt:197:11
 unsigned-varint-requires : tie.Need-unsigned-varint-requires
 unsigned-varint-requires c κs = search needs
 
--- src/step.rt:198:24
 enum-known-value : tie.Need-enum-known-value
 enum-known-value c = search needs
 
--- src/step.rt:200:17
 returns : tie.Need-returns
 returns c = compact-null kept _ _ _ (sym (c .before .before .before .before .unsigned-varint .ensures) ∙ ap ofNumber (c .before .before .value .given .1)) (search needs)
 
--- src/step.rt:203:24
 sub-t8 : tie.Need-sub-t8
 sub-t8 c = search needs
 
--- src/step.rt:207:25
 enum-known-e : tie.Need-enum-known-e
 enum-known-e c = search needs
 
--- src/step.rt:194:1
 returns-2 : tie.Need-returns-2
 returns-2 c = compact-some kept _ _ _ (sym (c .before .before .before .before .unsigned-varint .ensures) ∙ ap ofNumber (c .before .before .value .given .1)) (search needs)
 
--- src/step.rt:194:1
 returns-3 : tie.Need-returns-3
 returns-3 c = compact-bad kept _ _ (sym (c .before .before .before .unsigned-varint .ensures) ∙ ap ofNumber (c .before .e .given .1)) (placed-0 _ _ (sym (c .before .before .before .unsigned-varint .ensures) ∙ ap ofNumber (c .before .e .given .1)))
 

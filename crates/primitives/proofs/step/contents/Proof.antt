@@ -6,23 +6,18 @@ use borrow.Author.Needs.{needs}
 use Rattle.primitives.proofs.step.contents.Statement.{statement}
 use Rattle.primitives.proofs.step.contents.Tie as tie
 
--- src/step.rt:227:9
 rest-requires : tie.Need-rest-requires
 rest-requires c κs = search needs
 
--- src/step.rt:229:30
 at-requires : tie.Need-at-requires
 at-requires c κs = search needs
 
--- src/step.rt:229:9
 returns : tie.Need-returns
 returns c = data-short _ _ _ _ (c .before .before .rest .ensures) _ (c .at .ensures) (search needs)
 
--- src/step.rt:235:15
 add-t6 : tie.Need-add-t6
 add-t6 c = omega (arith, ap length (c .before .rest .ensures), length-drop (c .before .before .before .args .used) (c .before .before .before .args .s .now))
 
--- src/step.rt:224:1
 returns-2 : tie.Need-returns-2
 returns-2 c = data-is _ _ _ _ (c .before .rest .ensures) (search needs)
 

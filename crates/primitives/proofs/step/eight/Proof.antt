@@ -10,35 +10,27 @@ use borrow.Author.Needs.{needs}
 use Rattle.primitives.proofs.step.eight.Statement.{statement}
 use Rattle.primitives.proofs.step.eight.Tie as tie
 
--- src/step.rt:34:5
 four-requires : tie.Need-four-requires
 four-requires c κs = search needs
 
--- src/step.rt:34:5
 mul-result : tie.Need-mul-result
 mul-result c = search needs
 
--- src/step.rt:34:33
 sub-four : tie.Need-sub-four
 sub-four c = search needs
 
--- src/step.rt:34:33
 part-four-start : tie.Need-part-four-start
 part-four-start c = search needs
 
--- src/step.rt:34:33
 part-four-end : tie.Need-part-four-end
 part-four-end c = search needs
 
--- src/step.rt:34:28
 four-requires-2 : tie.Need-four-requires-2
 four-requires-2 c κs = search needs
 
--- src/step.rt:34:5
 add-result : tie.Need-add-result
 add-result c = search needs
 
--- src/step.rt:30:1
 returns : tie.Need-returns
 returns c =
     let t = c .before .before .before .before .args .s .now in

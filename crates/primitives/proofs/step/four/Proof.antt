@@ -4,63 +4,48 @@ use borrow.Author.Needs.{needs}
 use Rattle.primitives.proofs.step.four.Statement.{statement}
 use Rattle.primitives.proofs.step.four.Tie as tie
 
--- src/step.rt:27:12
 shared-slice-read-wide : tie.Need-shared-slice-read-wide
 shared-slice-read-wide c = search needs
 
--- src/step.rt:27:7
 wide-requires : tie.Need-wide-requires
 wide-requires c κs = search needs
 
--- src/step.rt:27:7
 mul-result : tie.Need-mul-result
 mul-result c = search needs
 
--- src/step.rt:27:31
 shared-slice-read-wide-2 : tie.Need-shared-slice-read-wide-2
 shared-slice-read-wide-2 c = search needs
 
--- src/step.rt:27:26
 wide-requires-2 : tie.Need-wide-requires-2
 wide-requires-2 c κs = search needs
 
--- src/step.rt:27:7
 add-result : tie.Need-add-result
 add-result c = search needs
 
--- src/step.rt:27:6
 mul-result-2 : tie.Need-mul-result-2
 mul-result-2 c = search needs
 
--- src/step.rt:27:51
 shared-slice-read-wide-3 : tie.Need-shared-slice-read-wide-3
 shared-slice-read-wide-3 c = search needs
 
--- src/step.rt:27:46
 wide-requires-3 : tie.Need-wide-requires-3
 wide-requires-3 c κs = search needs
 
--- src/step.rt:27:6
 add-result-2 : tie.Need-add-result-2
 add-result-2 c = search needs
 
--- src/step.rt:27:5
 mul-result-3 : tie.Need-mul-result-3
 mul-result-3 c = search needs
 
--- src/step.rt:27:71
 shared-slice-read-wide-4 : tie.Need-shared-slice-read-wide-4
 shared-slice-read-wide-4 c = search needs
 
--- src/step.rt:27:66
 wide-requires-4 : tie.Need-wide-requires-4
 wide-requires-4 c κs = search needs
 
--- src/step.rt:27:5
 add-result-3 : tie.Need-add-result-3
 add-result-3 c = search needs
 
--- src/step.rt:23:1
 returns : tie.Need-returns
 returns c =
     let h = be-4 (c .before .before .before .before .before .before .before .before .before .args .s .now) (search needs) in

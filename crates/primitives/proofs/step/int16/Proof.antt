@@ -4,27 +4,21 @@ use borrow.Author.Needs.{needs}
 use Rattle.primitives.proofs.step.int16.Statement.{statement}
 use Rattle.primitives.proofs.step.int16.Tie as tie
 
--- src/step.rt:57:32
 at-requires : tie.Need-at-requires
 at-requires c κs = search needs
 
--- src/step.rt:57:9
 returns : tie.Need-returns
 returns c = cell-short w16 _ _ (c .at .ensures) (search needs)
 
--- src/step.rt:59:9
 two-requires : tie.Need-two-requires
 two-requires c κs = search needs
 
--- src/step.rt:61:9
 returns-2 : tie.Need-returns-2
 returns-2 c = cell-low w16 _ _ (search needs) (c .before .two .ensures .0) (search needs)
 
--- src/step.rt:64:16
 add-t6 : tie.Need-add-t6
 add-t6 c = search needs
 
--- src/step.rt:53:1
 returns-3 : tie.Need-returns-3
 returns-3 c = cell-high w16 _ (c .before .two .result) (search needs) (c .before .two .ensures .0) (search needs) (search needs)
 

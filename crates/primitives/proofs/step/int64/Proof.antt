@@ -4,19 +4,15 @@ use borrow.Author.Needs.{needs}
 use Rattle.primitives.proofs.step.int64.Statement.{statement}
 use Rattle.primitives.proofs.step.int64.Tie as tie
 
--- src/step.rt:89:32
 at-requires : tie.Need-at-requires
 at-requires c κs = search needs
 
--- src/step.rt:89:9
 returns : tie.Need-returns
 returns c = cell-short w64 _ _ (c .at .ensures) (search needs)
 
--- src/step.rt:92:16
 eight-requires : tie.Need-eight-requires
 eight-requires c κs = search needs
 
--- src/step.rt:85:1
 returns-2 : tie.Need-returns-2
 returns-2 c = cell-whole _ _ (search needs) (c .eight .ensures) (search needs)
 

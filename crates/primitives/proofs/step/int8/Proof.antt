@@ -4,31 +4,24 @@ use borrow.Author.Needs.{needs}
 use Rattle.primitives.proofs.step.int8.Statement.{statement}
 use Rattle.primitives.proofs.step.int8.Tie as tie
 
--- src/step.rt:41:32
 at-requires : tie.Need-at-requires
 at-requires c κs = search needs
 
--- src/step.rt:41:9
 returns : tie.Need-returns
 returns c = cell-short w8 _ _ (c .at .ensures) (search needs)
 
--- src/step.rt:43:18
 shared-slice-read-wide : tie.Need-shared-slice-read-wide
 shared-slice-read-wide c = search needs
 
--- src/step.rt:43:9
 wide-requires : tie.Need-wide-requires
 wide-requires c κs = search needs
 
--- src/step.rt:45:9
 returns-2 : tie.Need-returns-2
 returns-2 c = cell-low w8 _ _ (search needs) (be-1 (c .before .before .before .before .before .args .s .now) (c .before .wide .result) (search needs) (c .before .wide .ensures .0)) (search needs)
 
--- src/step.rt:48:16
 add-t8 : tie.Need-add-t8
 add-t8 c = search needs
 
--- src/step.rt:37:1
 returns-3 : tie.Need-returns-3
 returns-3 c = cell-high w8 _ (c .before .wide .result) (search needs) (be-1 (c .before .before .before .before .before .args .s .now) (c .before .wide .result) (search needs) (c .before .wide .ensures .0)) (search needs) (search needs)
 

@@ -4,31 +4,24 @@ use borrow.Author.Needs.{needs}
 use Rattle.primitives.proofs.step.length16.Statement.{statement}
 use Rattle.primitives.proofs.step.length16.Tie as tie
 
--- src/step.rt:165:31
 at-requires : tie.Need-at-requires
 at-requires c κs = search needs
 
--- src/step.rt:165:9
 returns : tie.Need-returns
 returns c = length-short w16 kept _ _ (c .at .ensures) (search needs)
 
--- src/step.rt:167:9
 two-requires : tie.Need-two-requires
 two-requires c κs = search needs
 
--- src/step.rt:169:9
 returns-2 : tie.Need-returns-2
 returns-2 c = length-some w16 kept _ (c .before .two .result) (search needs) (c .before .two .ensures .0) (search needs)
 
--- src/step.rt:172:9
 returns-3 : tie.Need-returns-3
 returns-3 c = length-null w16 kept _ (c .before .before .two .result) (search needs) (c .before .before .two .ensures .0) (search needs) (search needs)
 
--- src/step.rt:174:20
 at-requires-2 : tie.Need-at-requires-2
 at-requires-2 c κs = search needs
 
--- src/step.rt:161:1
 returns-4 : tie.Need-returns-4
 returns-4 c = length-below w16 kept _ (c .before .before .before .two .result) _ (c .at2 .ensures) (search needs) (c .before .before .before .two .ensures .0) (search needs) (search needs)
 

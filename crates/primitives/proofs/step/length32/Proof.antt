@@ -4,31 +4,24 @@ use borrow.Author.Needs.{needs}
 use Rattle.primitives.proofs.step.length32.Statement.{statement}
 use Rattle.primitives.proofs.step.length32.Tie as tie
 
--- src/step.rt:181:31
 at-requires : tie.Need-at-requires
 at-requires c κs = search needs
 
--- src/step.rt:181:9
 returns : tie.Need-returns
 returns c = length-short w32 kept _ _ (c .at .ensures) (search needs)
 
--- src/step.rt:183:9
 four-requires : tie.Need-four-requires
 four-requires c κs = search needs
 
--- src/step.rt:185:9
 returns-2 : tie.Need-returns-2
 returns-2 c = length-some w32 kept _ (c .before .four .result) (search needs) (c .before .four .ensures .0) (search needs)
 
--- src/step.rt:188:9
 returns-3 : tie.Need-returns-3
 returns-3 c = length-null w32 kept _ (c .before .before .four .result) (search needs) (c .before .before .four .ensures .0) (search needs) (search needs)
 
--- src/step.rt:190:20
 at-requires-2 : tie.Need-at-requires-2
 at-requires-2 c κs = search needs
 
--- src/step.rt:177:1
 returns-4 : tie.Need-returns-4
 returns-4 c = length-below w32 kept _ (c .before .before .before .four .result) _ (c .at2 .ensures) (search needs) (c .before .before .before .four .ensures .0) (search needs) (search needs)
 

@@ -8,41 +8,32 @@ use borrow.Author.Needs.{needs}
 use Rattle.primitives.proofs.step.nullable_bytes.Statement.{statement}
 use Rattle.primitives.proofs.step.nullable_bytes.Tie as tie
 
--- src/step.rt:252:11
 length32-requires : tie.Need-length32-requires
 length32-requires c κs = search needs
 
--- src/step.rt:253:23
 enum-known-count : tie.Need-enum-known-count
 enum-known-count c = search needs
 
--- src/step.rt:253:48
 contents-requires : tie.Need-contents-requires
 contents-requires c κs = search needs
 
--- src/step.rt:253:40
 present-requires : tie.Need-present-requires
 present-requires c κs = search needs
 
--- src/step.rt:254:23
 enum-known-used : tie.Need-enum-known-used
 enum-known-used c = search needs
 
--- src/step.rt:258:24
 enum-known-e : tie.Need-enum-known-e
 enum-known-e c = search needs
 
--- src/step.rt:249:1
 returns : tie.Need-returns
 unfolding readBasic counted dataBehind lengthOf
 returns c = c .present .ensures ∙ ap there (kept-took (lengthOf unsigned (fixed w32 kept)) _ _ (c .before .before .before .before .before .length32 .ensures) (readBlob (byPlace false)) true 4 _ _ (c .before .before .before .count .given .1) _ _ refl (c .before .contents .ensures))
 
--- src/step.rt:249:1
 returns-2 : tie.Need-returns-2
 unfolding readBasic counted dataBehind lengthOf
 returns-2 c = ap there (kept-none (lengthOf unsigned (fixed w32 kept)) _ _ (c .before .before .before .length32 .ensures) (readBlob (byPlace false)) true 4 _ (c .before .used .given .1))
 
--- src/step.rt:249:1
 returns-3 : tie.Need-returns-3
 unfolding readBasic counted dataBehind lengthOf
 returns-3 c = ap there (kept-refused (lengthOf unsigned (fixed w32 kept)) _ (c .before .before .before .length32 .result) (c .before .before .before .length32 .ensures) (readBlob (byPlace false)) true 4 _ (ap ofCount (c .before .e .given .1)))

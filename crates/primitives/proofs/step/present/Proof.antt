@@ -5,19 +5,15 @@ use borrow.Author.Needs.{needs}
 use Rattle.primitives.proofs.step.present.Statement.{statement}
 use Rattle.primitives.proofs.step.present.Tie as tie
 
--- src/step.rt:266:22
 enum-known-p : tie.Need-enum-known-p
 enum-known-p c = search needs
 
--- src/step.rt:270:23
 enum-known-p-2 : tie.Need-enum-known-p-2
 enum-known-p-2 c = search needs
 
--- src/step.rt:262:1
 returns : tie.Need-returns
 returns c = sym (ap (λ (q : Part). there (somePart (ofPart q))) (c .before .p .given .1))
 
--- src/step.rt:262:1
 returns-2 : tie.Need-returns-2
 returns-2 c = sym (ap (λ (q : Part). there (somePart (ofPart q))) (c .before .p2 .given .1))
 

@@ -8,41 +8,32 @@ use borrow.Author.Needs.{needs}
 use Rattle.primitives.proofs.step.records.Statement.{statement}
 use Rattle.primitives.proofs.step.records.Tie as tie
 
--- src/step.rt:288:11
 length32-requires : tie.Need-length32-requires
 length32-requires c κs = search needs
 
--- src/step.rt:289:23
 enum-known-count : tie.Need-enum-known-count
 enum-known-count c = search needs
 
--- src/step.rt:289:40
 contents-requires : tie.Need-contents-requires
 contents-requires c κs = search needs
 
--- src/step.rt:290:23
 enum-known-used : tie.Need-enum-known-used
 enum-known-used c = search needs
 
--- src/step.rt:290:33
 contents-requires-2 : tie.Need-contents-requires-2
 contents-requires-2 c κs = search needs
 
--- src/step.rt:291:24
 enum-known-e : tie.Need-enum-known-e
 enum-known-e c = search needs
 
--- src/step.rt:285:1
 returns : tie.Need-returns
 unfolding readBasic counted dataBehind lengthOf
 returns c = plain-took (lengthOf unsigned (fixed w32 empty)) _ _ (c .before .before .before .before .length32 .ensures) (readBlob (byPlace false)) true 8 _ _ (c .before .before .count .given .1) _ (c .contents .ensures)
 
--- src/step.rt:285:1
 returns-2 : tie.Need-returns-2
 unfolding readBasic counted dataBehind lengthOf
 returns-2 c = plain-empty (lengthOf unsigned (fixed w32 empty)) _ _ (c .before .before .before .before .length32 .ensures) (readBlob (byPlace false)) 8 _ (c .before .before .used .given .1) _ (c .contents2 .ensures)
 
--- src/step.rt:285:1
 returns-3 : tie.Need-returns-3
 unfolding readBasic counted dataBehind lengthOf
 returns-3 c = plain-refused (lengthOf unsigned (fixed w32 empty)) _ (c .before .before .before .length32 .result) (c .before .before .before .length32 .ensures) (readBlob (byPlace false)) true 8 _ (ap ofCount (c .before .e .given .1))

@@ -3,35 +3,27 @@ use borrow.Author.Needs.{needs}
 use Rattle.primitives.proofs.step.rest.Statement.{statement}
 use Rattle.primitives.proofs.step.rest.Tie as tie
 
--- src/step.rt:218:9
 sub-result : tie.Need-sub-result
 sub-result c = search needs
 
--- src/step.rt:218:9
 part-result-start : tie.Need-part-result-start
 part-result-start c = search needs
 
--- src/step.rt:218:9
 part-result-end : tie.Need-part-result-end
 part-result-end c = search needs
 
--- src/step.rt:220:9
 sub-result-2 : tie.Need-sub-result-2
 sub-result-2 c = search needs
 
--- src/step.rt:220:9
 part-result-start-2 : tie.Need-part-result-start-2
 part-result-start-2 c = search needs
 
--- src/step.rt:220:9
 part-result-end-2 : tie.Need-part-result-end-2
 part-result-end-2 c = search needs
 
--- src/step.rt:214:1
 returns : tie.Need-returns
 returns c = rest-in (c .before .before .args .s .now) (c .before .before .args .used)
 
--- src/step.rt:214:1
 returns-2 : tie.Need-returns-2
 returns-2 c = rest-out (c .before .before .args .s .now) (c .before .before .args .used) (search needs)
 

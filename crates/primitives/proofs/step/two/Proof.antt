@@ -4,31 +4,24 @@ use borrow.Author.Needs.{needs}
 use Rattle.primitives.proofs.step.two.Statement.{statement}
 use Rattle.primitives.proofs.step.two.Tie as tie
 
--- src/step.rt:20:10
 shared-slice-read-wide : tie.Need-shared-slice-read-wide
 shared-slice-read-wide c = search needs
 
--- src/step.rt:20:5
 wide-requires : tie.Need-wide-requires
 wide-requires c κs = search needs
 
--- src/step.rt:20:5
 mul-result : tie.Need-mul-result
 mul-result c = search needs
 
--- src/step.rt:20:29
 shared-slice-read-wide-2 : tie.Need-shared-slice-read-wide-2
 shared-slice-read-wide-2 c = search needs
 
--- src/step.rt:20:24
 wide-requires-2 : tie.Need-wide-requires-2
 wide-requires-2 c κs = search needs
 
--- src/step.rt:20:5
 add-result : tie.Need-add-result
 add-result c = search needs
 
--- src/step.rt:16:1
 returns : tie.Need-returns
 returns c =
     let h = be-2 (c .before .before .before .before .before .args .s .now) (search needs) in

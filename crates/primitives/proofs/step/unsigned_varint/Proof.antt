@@ -11,107 +11,81 @@ Inv-loop s k₀ weight₀ value₀ p₀ k weight value p = Along s k weight valu
 abbrev μ-loop : tie.MeasureT-loop
 μ-loop s k₀ weight₀ value₀ p₀ k weight value p = k
 
--- src/step.rt:118:5
 loop-holds : tie.Need-loop-holds Inv-loop μ-loop
 loop-holds c = start _
 
--- src/step.rt:120:36
 at-requires : tie.Need-at-requires Inv-loop μ-loop
 at-requires c κs = search needs
 
--- src/step.rt:120:13
 returns : tie.Need-returns Inv-loop μ-loop
 returns c = short _ _ _ _ _ _ (c .at .ensures) (c .before .before .before .loop .inv) (c .before .if1 .taken)
 
--- src/step.rt:122:22
 shared-slice-read-wide : tie.Need-shared-slice-read-wide Inv-loop μ-loop
 shared-slice-read-wide c = search needs
 
--- src/step.rt:122:13
 wide-requires : tie.Need-wide-requires Inv-loop μ-loop
 wide-requires c κs = search needs
 
--- src/step.rt:125:32
 mul-t13 : tie.Need-mul-t13 Inv-loop μ-loop
 mul-t13 c = record { fits = room _ _ _ _ _ (c .before .before .before .before .loop-test .taken) (c .before .before .before .before .before .loop .inv) _ (c .if2 .taken) .0 }
 
--- src/step.rt:125:24
 add-t14 : tie.Need-add-t14 Inv-loop μ-loop
 add-t14 c = record { fits = room _ _ _ _ _ (c .before .before .before .before .loop-test .taken) (c .before .before .before .before .before .loop .inv) _ (c .if2 .taken) .1 }
 
--- src/step.rt:126:23
 add-t15 : tie.Need-add-t15 Inv-loop μ-loop
 add-t15 c = search needs
 
--- src/step.rt:124:13
 returns-2 : tie.Need-returns-2 Inv-loop μ-loop
 returns-2 c = search (needs, ended)
 
--- src/step.rt:129:25
 mul-value : tie.Need-mul-value Inv-loop μ-loop
 mul-value c = record { fits = room _ _ _ _ _ (c .before .before .before .before .loop-test .taken) (c .before .before .before .before .before .loop .inv) (c .before .wide .result % 128) (omega arith) .0 }
 
--- src/step.rt:129:17
 add-value : tie.Need-add-value Inv-loop μ-loop
 add-value c = record { fits = room _ _ _ _ _ (c .before .before .before .before .loop-test .taken) (c .before .before .before .before .before .loop .inv) (c .before .wide .result % 128) (omega arith) .1 }
 
--- src/step.rt:130:18
 mul-weight : tie.Need-mul-weight Inv-loop μ-loop
 mul-weight c = omega (arith, narrow _ _ _ _ _ (c .before .before .before .before .loop-test .taken) (c .before .before .before .before .before .loop .inv))
 
--- src/step.rt:131:13
 add-p : tie.Need-add-p Inv-loop μ-loop
 add-p c = search needs
 
--- src/step.rt:132:13
 sub-k : tie.Need-sub-k Inv-loop μ-loop
 sub-k c = search needs
 
--- src/step.rt:118:5
 loop-less : tie.Need-loop-less Inv-loop μ-loop
 loop-less c = search needs
 
--- src/step.rt:118:5
 loop-again : tie.Need-loop-again Inv-loop μ-loop
 loop-again c = search (needs, again)
 
--- src/step.rt:135:32
 at-requires-2 : tie.Need-at-requires-2 Inv-loop μ-loop
 at-requires-2 c κs = search needs
 
--- src/step.rt:135:9
 returns-3 : tie.Need-returns-3 Inv-loop μ-loop
 returns-3 c = short _ _ _ _ _ _ (c .at2 .ensures) (c .before .before .before .loop .inv) (c .before .if3 .taken)
 
--- src/step.rt:137:18
 shared-slice-read-wide-2 : tie.Need-shared-slice-read-wide-2 Inv-loop μ-loop
 shared-slice-read-wide-2 c = search needs
 
--- src/step.rt:137:9
 wide-requires-2 : tie.Need-wide-requires-2 Inv-loop μ-loop
 wide-requires-2 c κs = search needs
 
--- src/step.rt:140:28
 mul-t24 : tie.Need-mul-t24 Inv-loop μ-loop
 mul-t24 c = record { fits = room-10 _ _ _ _ _ (c .before .before .before .before .loop-test .left) (c .before .before .before .before .before .loop .inv) (c .before .wide2 .result % 2) (omega arith) .0 }
 
--- src/step.rt:140:20
 add-t25 : tie.Need-add-t25 Inv-loop μ-loop
 add-t25 c = record { fits = room-10 _ _ _ _ _ (c .before .before .before .before .loop-test .left) (c .before .before .before .before .before .loop .inv) (c .before .wide2 .result % 2) (omega arith) .1 }
 
--- src/step.rt:141:19
 add-t26 : tie.Need-add-t26 Inv-loop μ-loop
 add-t26 c = search needs
 
--- src/step.rt:139:9
 returns-4 : tie.Need-returns-4 Inv-loop μ-loop
 returns-4 c = search (needs, tenth)
 
--- src/step.rt:144:21
 at-requires-3 : tie.Need-at-requires-3 Inv-loop μ-loop
 at-requires-3 c κs = search needs
 
--- src/step.rt:111:1
 returns-5 : tie.Need-returns-5 Inv-loop μ-loop
 returns-5 c = endless _ _ _ _ _ (c .before .before .wide2 .ensures .0) (c .before .before .before .before .if3 .left) _ _ (c .at3 .ensures) (c .before .before .before .before .before .loop-test .left) (c .before .before .before .before .before .before .loop .inv) (c .before .if4 .left)
 
