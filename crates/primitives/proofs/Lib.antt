@@ -15,3 +15,5 @@ pub mod Lengths
 pub mod Behind
 -- what is left of a slice
 pub mod Rest
+-- a promise determines the reply
+pub mod Unique

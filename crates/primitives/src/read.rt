@@ -5,6 +5,7 @@ ghost use Rattle.layout.specs.Primitives.{cellOf, compact, empty, fixed, flag, 
 ghost use Rattle.layout.specs.Rows.{blob, text};
 ghost use Rattle.layout.specs.Read.{byPlace, readBasic};
 ghost use Rattle.layout.specs.Answers.{alone};
+ghost use Rattle.layout.specs.Tables.{slice};
 ghost use Rattle.primitives.specs.Answers.{counted, ofCount, ofFlag, ofInteger, ofNullable, ofNumber, ofPart, ofShown, shownOf, there, zigzagged};
 use crate::Count;
 use crate::Flag;
@@ -234,4 +235,12 @@ pub fn compact_nullable_string(msg: &[u8]) -> Nullable
         return Nullable::Refused(at(TOO_LONG, 0));
     }
     step::compact_nullable_string(msg)
+}
+
+// The part of the message that an answer tells of; as much of it as the message has.
+pub fn part(msg: &[u8], start: usize, len: usize) -> &[u8]
+    ensures { λ r. ⌜ now r ≡ slice (now (msg .entry)) (start, len) ⌝ }
+{
+    let left = step::rest(msg, start);
+    if len < left.len() { &left[..len] } else { left }
 }

@@ -212,7 +212,7 @@ pub fn compact_length(s: &[u8]) -> Count
 // ---- data: the part of the message behind its length
 
 // What is left behind `used` bytes, and nothing behind the end.
-fn rest(s: &[u8], used: usize) -> &[u8]
+pub fn rest(s: &[u8], used: usize) -> &[u8]
     ensures { λ r. ⌜ now r ≡ drop used (now (s .entry)) ⌝ }
 {
     if used < s.len() {

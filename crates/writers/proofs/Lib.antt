@@ -8,3 +8,5 @@ pub mod Shortest
 pub mod Carried
 -- a primitive written by a call of its own
 pub mod Answered
+-- a promise determines the reply and the output
+pub mod Unique
