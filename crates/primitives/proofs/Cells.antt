@@ -3,6 +3,7 @@ use mathlib.Core.Bool.{Bool, false, true}
 use mathlib.Core.List.{List, [], _++_, _∷_}
 use mathlib.Core.Path.{_∙_, _≡_, ap, refl, sym}
 use Prim.Native.Nat.{_*_, _+_, _-_, _<_, _^_, _≤_, ℕ}
+use native.Mathlib.Decide.{decLe}
 use native.Mathlib.Nat.{add-mul, add-zero, mul-assoc, mul-comm, pow-suc}
 use native.Mathlib.Omega.{arith}
 use lib.Dec.{ltb}
@@ -47,6 +48,23 @@ pub be-8 : (s : List ℕ) → 8 ≤ length s → be 0 (take 8 s) ≡ be 0 (take 
 be-8 s h =
     let l : length (take 4 (drop 4 s)) ≡ 4 = length-take-le 4 (drop 4 s) (omega (arith, length-drop 4 s)) in
     ap (be 0) (take-add 4 4 s) ∙ be-append 0 (take 4 s) (take 4 (drop 4 s)) ∙ be-shift (be 0 (take 4 s)) (take 4 (drop 4 s)) ∙ ap (λ (k : ℕ). be 0 (take 4 s) * 256 ^ k + be 0 (take 4 (drop 4 s))) l
+
+-- ---- k bytes, not negative
+
+module _ (k : ℕ) (s : List ℕ) where
+  pub int-short : (e : Refusal) → e ≡ because 3 0 → length s < k → bad e ≡ int k 0 s
+  int-short e i h = ap bad i ∙ sym (int-bad k 0 s h)
+
+  pub int-is : (n : ℕ) → k ≤ length s → n ≡ be 0 (take k s) → ok n k ≡ int k 0 s
+  int-is n h e = ap (λ (m : ℕ). ok m k) e ∙ sym (int-ok k 0 s h)
+
+  -- the bytes end, and nothing else
+  pub int-refuses : (c : Refusal) → int k 0 s ≡ bad c → c ≡ because 3 0
+  int-refuses c h =
+      elim (decLe k (length s)) [
+        | yes l ↦ let g = int-ok k 0 s l in let z : _≡_ {A = ℕ} 0 1 = cc in absurd (omega arith)
+        | no l ↦ let g = int-bad k 0 s (omega arith) in cc
+      ]
 
 module _ (w : Width) (s : List ℕ) where
   -- too few bytes

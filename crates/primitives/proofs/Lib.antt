@@ -10,10 +10,5 @@ pub mod Signed
 pub mod Alone
 -- zigzag
 pub mod Zigzag
--- lengths and counts, and what stands behind them
-pub mod Lengths
-pub mod Behind
--- what is left of a slice
-pub mod Rest
 -- a promise determines the reply
 pub mod Unique

@@ -1,11 +1,11 @@
-// Kafka's primitive types and tagged fields, read.
-// `step` reads one primitive at the front of what is left of a message; `read` has the calls, which judge the message's size first.
+// Kafka's numbers, read; and what all calls share: the size that is taken, and refusals.
+// `numbers` reads at the front of what is left of a message; `read` has the calls, which judge the message's size first.
 ghost use mathlib.Core.Path.{_≡_};
 ghost use Rattle.layout.specs.Reading.{because};
 ghost use Rattle.primitives.specs.Answers.{ofRefusal};
 
+pub mod numbers;
 pub mod read;
-pub mod step;
 
 // The numbers of docs/RULES.md, section 10.
 pub const TOO_LONG: u8 = 2;
@@ -48,36 +48,6 @@ pub enum Integer {
 
 pub enum Flag {
     Took { value: bool, used: usize },
-    Refused(Refusal),
-}
-
-// A length or count: null, or how many; and the bytes used.
-pub enum Count {
-    Null { used: usize },
-    Took { count: u64, used: usize },
-    Refused(Refusal),
-}
-
-// A text or data as a part of the message, and the bytes used.
-pub enum Part {
-    Took {
-        start: usize,
-        len: usize,
-        used: usize,
-    },
-    Refused(Refusal),
-}
-
-// A text or data that a version may lack and that may be null.
-pub enum Field {
-    Absent,
-    Null,
-    Present { start: usize, len: usize },
-}
-
-// A field, and the bytes used.
-pub enum Nullable {
-    Took { field: Field, used: usize },
     Refused(Refusal),
 }
 

@@ -1,23 +1,16 @@
 // The calls: each judges the size of the message that it is lent, and reads the primitive at its front.
 ghost use mathlib.Core.Path.{_≡_};
-ghost use mathlib.Core.Bool.{false};
-ghost use Rattle.layout.specs.Primitives.{cellOf, compact, empty, fixed, flag, integer, kept, never, unsigned, varint, varlong, w8, w16, w32, w64};
-ghost use Rattle.layout.specs.Rows.{blob, text};
-ghost use Rattle.layout.specs.Read.{byPlace, readBasic};
+ghost use Rattle.layout.specs.Primitives.{cellOf, flag, integer, unsigned, varint, varlong, w8, w16, w32, w64};
 ghost use Rattle.layout.specs.Answers.{alone};
-ghost use Rattle.layout.specs.Tables.{slice};
-ghost use Rattle.primitives.specs.Answers.{counted, ofCount, ofFlag, ofInteger, ofNullable, ofNumber, ofPart, ofShown, shownOf, there, zigzagged};
-use crate::Count;
+ghost use Rattle.primitives.specs.Answers.{ofFlag, ofInteger, ofNumber, ofShown, shownOf, zigzagged};
 use crate::Flag;
 use crate::Integer;
 use crate::MOST;
-use crate::Nullable;
 use crate::Number;
-use crate::Part;
 use crate::TOO_LONG;
 use crate::TOO_WIDE;
 use crate::at;
-use crate::step;
+use crate::numbers;
 
 // The signed number that a cell shows.
 fn signed(c: u64) -> i64
@@ -49,7 +42,7 @@ pub fn int8(msg: &[u8]) -> Integer
     if MOST < msg.len() {
         return Integer::Refused(at(TOO_LONG, 0));
     }
-    shown(step::int8(msg))
+    shown(numbers::int8(msg))
 }
 
 pub fn int16(msg: &[u8]) -> Integer
@@ -58,7 +51,7 @@ pub fn int16(msg: &[u8]) -> Integer
     if MOST < msg.len() {
         return Integer::Refused(at(TOO_LONG, 0));
     }
-    shown(step::int16(msg))
+    shown(numbers::int16(msg))
 }
 
 pub fn int32(msg: &[u8]) -> Integer
@@ -67,7 +60,7 @@ pub fn int32(msg: &[u8]) -> Integer
     if MOST < msg.len() {
         return Integer::Refused(at(TOO_LONG, 0));
     }
-    shown(step::int32(msg))
+    shown(numbers::int32(msg))
 }
 
 pub fn int64(msg: &[u8]) -> Integer
@@ -76,7 +69,7 @@ pub fn int64(msg: &[u8]) -> Integer
     if MOST < msg.len() {
         return Integer::Refused(at(TOO_LONG, 0));
     }
-    shown(step::int64(msg))
+    shown(numbers::int64(msg))
 }
 
 pub fn boolean(msg: &[u8]) -> Flag
@@ -85,7 +78,7 @@ pub fn boolean(msg: &[u8]) -> Flag
     if MOST < msg.len() {
         return Flag::Refused(at(TOO_LONG, 0));
     }
-    step::boolean(msg)
+    numbers::boolean(msg)
 }
 
 pub fn unsigned_varint(msg: &[u8]) -> Number
@@ -94,7 +87,7 @@ pub fn unsigned_varint(msg: &[u8]) -> Number
     if MOST < msg.len() {
         return Number::Refused(at(TOO_LONG, 0));
     }
-    step::unsigned_varint(msg)
+    numbers::unsigned_varint(msg)
 }
 
 // The cell of the number that n carries by zigzag.
@@ -113,7 +106,7 @@ pub fn varlong(msg: &[u8]) -> Integer
     if MOST < msg.len() {
         return Integer::Refused(at(TOO_LONG, 0));
     }
-    match step::unsigned_varint(msg) {
+    match numbers::unsigned_varint(msg) {
         Number::Took { value, used } => Integer::Took {
             value: signed(unzigzag(value)),
             used,
@@ -129,7 +122,7 @@ pub fn varint(msg: &[u8]) -> Integer
     if MOST < msg.len() {
         return Integer::Refused(at(TOO_LONG, 0));
     }
-    match step::unsigned_varint(msg) {
+    match numbers::unsigned_varint(msg) {
         Number::Took { value, used } => {
             if 4294967295 < value {
                 return Integer::Refused(at(TOO_WIDE, 0));
@@ -141,106 +134,4 @@ pub fn varint(msg: &[u8]) -> Integer
         }
         Number::Refused(e) => Integer::Refused(e),
     }
-}
-
-// ---- counts and bytes
-
-pub fn array_count(msg: &[u8]) -> Count
-    ensures { λ r. ⌜ ofCount r ≡ alone (counted (fixed w32 kept)) (now (msg .entry)) ⌝ }
-{
-    if MOST < msg.len() {
-        return Count::Refused(at(TOO_LONG, 0));
-    }
-    step::length32(msg)
-}
-
-pub fn compact_array_count(msg: &[u8]) -> Count
-    ensures { λ r. ⌜ ofCount r ≡ alone (counted (compact kept)) (now (msg .entry)) ⌝ }
-{
-    if MOST < msg.len() {
-        return Count::Refused(at(TOO_LONG, 0));
-    }
-    step::compact_length(msg)
-}
-
-pub fn bytes(msg: &[u8]) -> Part
-    ensures { λ r. ⌜ ofPart r ≡ alone (readBasic (byPlace false) (blob (fixed w32 never))) (now (msg .entry)) ⌝ }
-{
-    if MOST < msg.len() {
-        return Part::Refused(at(TOO_LONG, 0));
-    }
-    step::bytes(msg)
-}
-
-pub fn nullable_bytes(msg: &[u8]) -> Nullable
-    ensures { λ r. ⌜ ofNullable r ≡ there (alone (readBasic (byPlace false) (blob (fixed w32 kept))) (now (msg .entry))) ⌝ }
-{
-    if MOST < msg.len() {
-        return Nullable::Refused(at(TOO_LONG, 0));
-    }
-    step::nullable_bytes(msg)
-}
-
-pub fn compact_bytes(msg: &[u8]) -> Part
-    ensures { λ r. ⌜ ofPart r ≡ alone (readBasic (byPlace false) (blob (compact never))) (now (msg .entry)) ⌝ }
-{
-    if MOST < msg.len() {
-        return Part::Refused(at(TOO_LONG, 0));
-    }
-    step::compact_bytes(msg)
-}
-
-pub fn records(msg: &[u8]) -> Part
-    ensures { λ r. ⌜ ofPart r ≡ alone (readBasic (byPlace false) (blob (fixed w32 empty))) (now (msg .entry)) ⌝ }
-{
-    if MOST < msg.len() {
-        return Part::Refused(at(TOO_LONG, 0));
-    }
-    step::records(msg)
-}
-
-// ---- texts
-
-pub fn string(msg: &[u8]) -> Part
-    ensures { λ r. ⌜ ofPart r ≡ alone (readBasic (byPlace false) (text (fixed w16 never))) (now (msg .entry)) ⌝ }
-{
-    if MOST < msg.len() {
-        return Part::Refused(at(TOO_LONG, 0));
-    }
-    step::string(msg)
-}
-
-pub fn nullable_string(msg: &[u8]) -> Nullable
-    ensures { λ r. ⌜ ofNullable r ≡ there (alone (readBasic (byPlace false) (text (fixed w16 kept))) (now (msg .entry))) ⌝ }
-{
-    if MOST < msg.len() {
-        return Nullable::Refused(at(TOO_LONG, 0));
-    }
-    step::nullable_string(msg)
-}
-
-pub fn compact_string(msg: &[u8]) -> Part
-    ensures { λ r. ⌜ ofPart r ≡ alone (readBasic (byPlace false) (text (compact never))) (now (msg .entry)) ⌝ }
-{
-    if MOST < msg.len() {
-        return Part::Refused(at(TOO_LONG, 0));
-    }
-    step::compact_string(msg)
-}
-
-pub fn compact_nullable_string(msg: &[u8]) -> Nullable
-    ensures { λ r. ⌜ ofNullable r ≡ there (alone (readBasic (byPlace false) (text (compact kept))) (now (msg .entry))) ⌝ }
-{
-    if MOST < msg.len() {
-        return Nullable::Refused(at(TOO_LONG, 0));
-    }
-    step::compact_nullable_string(msg)
-}
-
-// The part of the message that an answer tells of; as much of it as the message has.
-pub fn part(msg: &[u8], start: usize, len: usize) -> &[u8]
-    ensures { λ r. ⌜ now r ≡ slice (now (msg .entry)) (start, len) ⌝ }
-{
-    let left = step::rest(msg, start);
-    if len < left.len() { &left[..len] } else { left }
 }

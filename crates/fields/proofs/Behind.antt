@@ -1,0 +1,148 @@
+-- What stands behind a length: a field's reader, from what its length was and what the contents gave. One law over the form of the length and the kind of contents.
+use mathlib.Core.Bool.{Bool, false, true}
+use mathlib.Core.List.{List}
+use mathlib.Core.Option.{Option, none, some}
+use mathlib.Core.Path.{_∙_, _≡_, ap, refl, subst, sym}
+use Prim.Native.Nat.{_+_, _-_, _<_, _≤_, ℕ}
+use native.Mathlib.Nat.{add-zero, zero-add}
+use native.Mathlib.Omega.{arith}
+use lib.ListN.{drop, length, take}
+use lib.Seq.{length-take-le}
+use Rattle.layout.specs.Reading.{Reader, Refusal, Res, bad, because, fail, give, here, more, next, ok, pick, placed, primitive, raw, then}
+use Rattle.layout.specs.Primitives.{checked, sized}
+use Rattle.layout.specs.Read.{readBlob, readText}
+use Rattle.layout.specs.Utf8.{utf8}
+use Rattle.layout.specs.Tables.{Span}
+use Rattle.layout.proofs.Local.{raw-ok}
+use Rattle.layout.proofs.Steps.{checked-inv, raw-bad, then-bad, then-ok}
+use Rattle.layout.proofs.Tests.{one-more}
+use Rattle.fields.specs.Answers.{dataBehind, ofCount, somePart, textBehind}
+use Rattle.fields.specs.declared.Count.{Count}
+use Rattle.fields.proofs.Lengths.{checked-bad, checked-never, checked-null, checked-some, length-bad}
+
+module _ (len : Reader ℕ) (F : ℕ → Reader Span) (s : List ℕ) where
+  -- the contents behind the u bytes of the length
+  abbrev behind : ℕ → ℕ → Res Span
+  behind u n = placed 0 (more u (F n u (drop u s)))
+
+  from-0 : (n m u : ℕ) → n ≡ m → more u (F n (0 + u) (drop u s)) ≡ more u (F m u (drop u s))
+  from-0 n m u e = λ i. more u (F (e i) (zero-add u i) (drop u s))
+
+  pub plain-some : (a : Bool) (e n u : ℕ) → len 0 s ≡ ok (n + 1) u → primitive (sized false a e len F) 0 s ≡ behind u n
+  unfolding sized primitive
+  plain-some a e n u h = ap (placed 0) (then-ok (checked a e len) _ 0 s (n + 1) u (checked-some len s a e n u h) ∙ from-0 (n + 1 - 1) n u (omega arith))
+
+  pub plain-null : (e u : ℕ) → len 0 s ≡ ok 0 u → primitive (sized false true e len F) 0 s ≡ behind u 0
+  unfolding sized primitive
+  plain-null e u h = ap (placed 0) (then-ok (checked true e len) _ 0 s 0 u (checked-null len s e u h) ∙ from-0 0 0 u refl)
+
+  pub plain-never : (e u : ℕ) → len 0 s ≡ ok 0 u → primitive (sized false false e len F) 0 s ≡ bad (because e 0)
+  unfolding sized primitive
+  plain-never e u h = ap (placed 0) (then-bad (checked false e len) _ 0 s (because e 0) (checked-never len s e u h))
+
+  pub plain-bad : (a : Bool) (e : ℕ) (d : Refusal) → len 0 s ≡ bad d → primitive (sized false a e len F) 0 s ≡ bad (because (d .number) 0)
+  unfolding sized primitive
+  plain-bad a e d h = ap (placed 0) (then-bad (checked a e len) _ 0 s _ (checked-bad len s a e d h))
+
+  pub kept-bad : (a : Bool) (e : ℕ) (d : Refusal) → len 0 s ≡ bad d → primitive (sized true a e len F) 0 s ≡ bad (because (d .number) 0)
+  unfolding sized primitive
+  kept-bad a e d h = ap (placed 0) (then-bad (checked true e len) _ 0 s _ (checked-bad len s true e d h))
+
+  null-inside : (a : Bool) (e u : ℕ) → len 0 s ≡ ok 0 u → sized true a e len F 0 s ≡ ok none u
+  unfolding sized pick give
+  null-inside a e u h = then-ok (checked true e len) _ 0 s 0 u (checked-null len s e u h) ∙ ap (λ (k : ℕ). ok none k) (add-zero u)
+
+  pub kept-null : (a : Bool) (e u : ℕ) → len 0 s ≡ ok 0 u → primitive (sized true a e len F) 0 s ≡ ok none u
+  unfolding primitive
+  kept-null a e u h = ap (placed 0) (null-inside a e u h)
+
+  -- `some` on the inside is `some` on the outside
+  some-out : (u : ℕ) (o : Res Span) → placed 0 (more u (next o (λ x. give (some x)) u (drop u s))) ≡ somePart (placed 0 (more u o))
+  unfolding give
+  some-out u (ok x n) = ap (λ (k : ℕ). ok (some x) (u + k)) (add-zero n)
+  some-out u (bad c) = refl
+
+  some-inside : (a : Bool) (e n u : ℕ) → len 0 s ≡ ok (n + 1) u → sized true a e len F 0 s ≡ more u (then (F n) (λ x. give (some x)) u (drop u s))
+  unfolding sized pick
+  some-inside a e n u h =
+      let m : n + 1 - 1 ≡ n = omega arith in
+      then-ok (checked true e len) _ 0 s (n + 1) u (checked-some len s true e n u h) ∙ rw (one-more n) (λ i. more u (then (F (m i)) (λ x. give (some x)) (zero-add u i) (drop u s)))
+
+  pub kept-some : (a : Bool) (e n u : ℕ) → len 0 s ≡ ok (n + 1) u → primitive (sized true a e len F) 0 s ≡ somePart (behind u n)
+  unfolding primitive then
+  kept-some a e n u h = ap (placed 0) (some-inside a e n u h) ∙ some-out u (F n u (drop u s))
+
+-- ---- what the length's step answered
+
+module _ (len : Reader ℕ) (s : List ℕ) (r : Count) (h : ofCount r ≡ checked true 4 len 0 s) where
+  pub was-some : (n u : ℕ) → r ≡ Count.Took n u → len 0 s ≡ ok (n + 1) u
+  was-some n u e = checked-inv true 4 len 0 s (n + 1) u (sym h ∙ ap ofCount e)
+
+  pub was-null : (u : ℕ) → r ≡ Count.Null u → len 0 s ≡ ok 0 u
+  was-null u e = checked-inv true 4 len 0 s 0 u (sym h ∙ ap ofCount e)
+
+  -- ---- and so what the field's reader gives
+
+  module _ (F : ℕ → Reader Span) where
+    pub plain-took : (a : Bool) (e n u : ℕ) → r ≡ Count.Took n u → (o : Res Span) → o ≡ behind len F s u n → o ≡ primitive (sized false a e len F) 0 s
+    plain-took a e n u i o d = d ∙ sym (plain-some len F s a e n u (was-some n u i))
+
+    pub plain-empty : (e u : ℕ) → r ≡ Count.Null u → (o : Res Span) → o ≡ behind len F s u 0 → o ≡ primitive (sized false true e len F) 0 s
+    plain-empty e u i o d = d ∙ sym (plain-null len F s e u (was-null u i))
+
+    pub plain-below : (e u : ℕ) → r ≡ Count.Null u → (c : Refusal) → c ≡ because e 0 → bad c ≡ primitive (sized false false e len F) 0 s
+    plain-below e u i c d = ap bad d ∙ sym (plain-never len F s e u (was-null u i))
+
+    pub plain-refused : (a : Bool) (e : ℕ) (c : Refusal) → ofCount r ≡ bad c → bad c ≡ primitive (sized false a e len F) 0 s
+    plain-refused a e c i = let b = length-bad len s 4 c (sym h ∙ i) in ap bad (b .2) ∙ sym (plain-bad len F s a e (b .0) (b .1))
+
+    pub kept-took : (a : Bool) (e n u : ℕ) → r ≡ Count.Took n u → (o : Res (Option Span)) (q : Res Span) → o ≡ somePart q → q ≡ behind len F s u n → o ≡ primitive (sized true a e len F) 0 s
+    kept-took a e n u i o q d g = d ∙ ap somePart g ∙ sym (kept-some len F s a e n u (was-some n u i))
+
+    pub kept-none : (a : Bool) (e u : ℕ) → r ≡ Count.Null u → ok none u ≡ primitive (sized true a e len F) 0 s
+    kept-none a e u i = sym (kept-null len F s a e u (was-null u i))
+
+    pub kept-refused : (a : Bool) (e : ℕ) (c : Refusal) → ofCount r ≡ bad c → bad c ≡ primitive (sized true a e len F) 0 s
+    kept-refused a e c i = let b = length-bad len s 4 c (sym h ∙ i) in ap bad (b .2) ∙ sym (kept-bad len F s a e (b .0) (b .1))
+
+-- ---- the contents
+
+module _ (s left : List ℕ) (u n : ℕ) (i : left ≡ drop u s) where
+  -- made by G of the place and the bytes
+  abbrev part : (ℕ → List ℕ → Reader Span) → Res Span
+  part G = placed 0 (more u (here (λ p. then (raw n) (G p)) u (drop u s)))
+
+  part-short : (G : ℕ → List ℕ → Reader Span) (c : Refusal) → c ≡ because 3 0 → length left < n → bad c ≡ part G
+  unfolding here
+  part-short G c e h = ap bad e ∙ sym (ap (λ o. placed 0 (more u o)) (then-bad (raw n) _ u (drop u s) (because 3 u) (raw-bad n u (drop u s) (subst (λ (t : List ℕ). length t < n) i h))))
+
+  part-is : (G : ℕ → List ℕ → Reader Span) → n ≤ length left → part G ≡ placed 0 (more u (more n (G u (take n (drop u s)) (u + n) (drop n (drop u s)))))
+  unfolding here
+  part-is G h = ap (λ o. placed 0 (more u o)) (then-ok (raw n) _ u (drop u s) (take n (drop u s)) n (raw-ok n u (drop u s) (subst (λ (t : List ℕ). n ≤ length t) i h)))
+
+  shown : n ≤ length left → _≡_ {A = Res Span} (ok (u, length (take n (drop u s))) (u + (n + 0))) (ok (u, n) (u + n))
+  shown h = λ t. ok (u, length-take-le n (drop u s) (subst (λ (q : List ℕ). n ≤ length q) i h) t) (u + add-zero n t)
+
+  pub data-short : (c : Refusal) → c ≡ because 3 0 → length left < n → bad c ≡ dataBehind u n s
+  unfolding dataBehind readBlob
+  data-short = part-short (λ p b. give (p, length b))
+
+  pub data-is : n ≤ length left → ok (u, n) (u + n) ≡ dataBehind u n s
+  unfolding dataBehind readBlob give
+  data-is h = sym (part-is (λ p b. give (p, length b)) h ∙ shown h)
+
+  -- text, well-formed or not
+  abbrev judge : ℕ → List ℕ → Reader Span
+  judge p b = pick (utf8 b) (give (p, length b)) (fail 7)
+
+  pub text-short : (c : Refusal) → c ≡ because 3 0 → length left < n → bad c ≡ textBehind u n s
+  unfolding textBehind readText
+  text-short = part-short judge
+
+  pub text-is : n ≤ length left → true ≡ utf8 (take n left) → ok (u, n) (u + n) ≡ textBehind u n s
+  unfolding textBehind readText pick give
+  text-is h w = sym (part-is judge h ∙ rw (ap (λ (t : List ℕ). utf8 (take n t)) (sym i) ∙ sym w) (shown h))
+
+  pub text-not : n ≤ length left → false ≡ utf8 (take n left) → (c : Refusal) → c ≡ because 7 0 → bad c ≡ textBehind u n s
+  unfolding textBehind readText pick fail
+  text-not h w c e = ap bad e ∙ sym (part-is judge h ∙ rw (ap (λ (t : List ℕ). utf8 (take n t)) (sym i) ∙ sym w))

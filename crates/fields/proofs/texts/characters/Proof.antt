@@ -1,0 +1,49 @@
+use mathlib.Core.Path.{_∙_, ap, sym}
+use native.Mathlib.Omega.{arith}
+use lib.ListN.{length, length-drop}
+use lib.Seq.{length-take-le}
+use Rattle.fields.proofs.Behind.{text-is, text-not, text-short}
+use borrow.Author.Needs.{needs}
+use Rattle.fields.proofs.texts.characters.Statement.{statement}
+use Rattle.fields.proofs.texts.characters.Tie as tie
+
+rest-requires : tie.Need-rest-requires
+rest-requires c κs = search needs
+
+at-requires : tie.Need-at-requires
+at-requires c κs = search needs
+
+returns : tie.Need-returns
+returns c = text-short _ _ _ _ (c .before .before .rest .ensures) _ (c .at .ensures) (search needs)
+
+slice-aggregate-is-text : tie.Need-slice-aggregate-is-text
+slice-aggregate-is-text c = sym (length-take-le (c .before .before .before .before .args .count) (c .before .before .rest .result .now) (search needs))
+
+is-text-requires : tie.Need-is-text-requires
+is-text-requires c κs = search needs
+
+add-t13 : tie.Need-add-t13
+add-t13 c = omega (arith, ap length (c .before .before .before .before .rest .ensures), length-drop (c .before .before .before .before .before .before .args .used) (c .before .before .before .before .before .before .args .s .now))
+
+returns-2 : tie.Need-returns-2
+returns-2 c = text-is _ _ _ _ (c .before .before .before .before .rest .ensures) (search needs) (sym (c .if2 .taken) ∙ c .before .is-text .ensures)
+
+at-requires-2 : tie.Need-at-requires-2
+at-requires-2 c κs = search needs
+
+returns-3 : tie.Need-returns-3
+returns-3 c = text-not _ _ _ _ (c .before .before .before .before .before .rest .ensures) (search needs) (sym (c .before .if2 .left) ∙ c .before .before .is-text .ensures) _ (c .at2 .ensures)
+
+pub characters-spec : {M : Type 1} → statement M
+characters-spec =
+    tie.close
+    (tie.spec
+    rest-requires
+    at-requires
+    returns
+    slice-aggregate-is-text
+    is-text-requires
+    add-t13
+    returns-2
+    at-requires-2
+    returns-3)

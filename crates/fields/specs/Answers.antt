@@ -1,0 +1,56 @@
+-- What the answers of the calls say in the definition's words: the number and values of docs/RULES.md for each case of each enum.
+use mathlib.Core.Option.{Option, none, some}
+use Prim.Native.Nat.{_+_, ℕ}
+use lib.ListN.{drop}
+use mathlib.Core.Bool.{false, true}
+use mathlib.Core.List.{List}
+use Rattle.layout.specs.Reading.{Reader, Res, bad, more, ok, placed}
+use Rattle.layout.specs.Primitives.{Size, checked, lengthOf, unsigned}
+use Rattle.layout.specs.Read.{byPlace, readBlob, readText}
+use Rattle.layout.specs.Tables.{Span}
+use Rattle.fields.specs.declared.Count.{Count}
+use Rattle.fields.specs.declared.Field.{Field}
+use Rattle.fields.specs.declared.Nullable.{Nullable}
+use Rattle.fields.specs.declared.Part.{Part}
+use Rattle.primitives.specs.Answers.{ofRefusal}
+
+-- one more than the length, and 0 for null
+abbrev pub ofCount : Count → Res ℕ
+ofCount (Count.Null n) = ok 0 n
+ofCount (Count.Took k n) = ok (k + 1) n
+ofCount (Count.Refused e) = bad (ofRefusal e)
+
+abbrev pub ofPart : Part → Res Span
+ofPart (Part.Took a k n) = ok (a, k) n
+ofPart (Part.Refused e) = bad (ofRefusal e)
+
+-- absent, null, or a part of the message
+abbrev pub ofField : Field → Option (Option Span)
+ofField Field.Absent = none
+ofField Field.Null = some none
+ofField (Field.Present a k) = some (some (a, k))
+
+abbrev pub ofNullable : Nullable → Res (Option (Option Span))
+ofNullable (Nullable.Took f n) = ok (ofField f) n
+ofNullable (Nullable.Refused e) = bad (ofRefusal e)
+
+-- a length or count with its null, refused at its own start
+unfoldable pub counted : Size → Reader ℕ
+counted z = checked true 4 (lengthOf unsigned z)
+
+-- data of n bytes behind the u bytes of its length, refused at the length's start
+unfoldable pub dataBehind : ℕ → ℕ → List ℕ → Res Span
+dataBehind u n s = placed 0 (more u (readBlob (byPlace false) n u (drop u s)))
+
+-- text of n bytes, likewise
+unfoldable pub textBehind : ℕ → ℕ → List ℕ → Res Span
+textBehind u n s = placed 0 (more u (readText (byPlace false) n u (drop u s)))
+
+abbrev pub somePart : Res Span → Res (Option Span)
+somePart (ok x n) = ok (some x) n
+somePart (bad e) = bad e
+
+-- a field that the version has
+abbrev pub there : Res (Option Span) → Res (Option (Option Span))
+there (ok x n) = ok (some x) n
+there (bad e) = bad e

@@ -1,0 +1,99 @@
+// Data behind its length, at the front of what is left of a message: shown as a part of it.
+ghost use mathlib.Core.Path.{_≡_};
+ghost use mathlib.Core.Bool.{false};
+ghost use lib.ListN.{drop};
+ghost use Rattle.layout.specs.Primitives.{compact, empty, fixed, kept, never, w32};
+ghost use Rattle.layout.specs.Rows.{blob};
+ghost use Rattle.layout.specs.Read.{byPlace, readBasic};
+ghost use Rattle.fields.specs.Answers.{dataBehind, ofNullable, ofPart, somePart, there};
+use crate::Count;
+use crate::Field;
+use crate::Nullable;
+use crate::Part;
+use crate::counts;
+use primitives::BYTES_END;
+use primitives::LENGTH_BELOW;
+use primitives::LENGTH_ZERO;
+use primitives::at;
+
+// What is left behind `used` bytes, and nothing behind the end.
+pub fn rest(s: &[u8], used: usize) -> &[u8]
+    ensures { λ r. ⌜ now r ≡ drop used (now (s .entry)) ⌝ }
+{
+    if used < s.len() {
+        &s[used..]
+    } else {
+        &s[s.len()..]
+    }
+}
+
+fn contents(s: &[u8], used: usize, count: u64) -> Part
+    ensures { λ r. ⌜ ofPart r ≡ dataBehind used count (now (s .entry)) ⌝ }
+{
+    let left = rest(s, used);
+    if (left.len() as u64) < count {
+        return Part::Refused(at(BYTES_END, 0));
+    }
+    let len = count as usize;
+    Part::Took {
+        start: used,
+        len,
+        used: used + len,
+    }
+}
+
+pub fn bytes(s: &[u8]) -> Part
+    ensures { λ r. ⌜ ofPart r ≡ readBasic (byPlace false) (blob (fixed w32 never)) 0 (now (s .entry)) ⌝ }
+{
+    match counts::length32(s) {
+        Count::Took { count, used } => contents(s, used, count),
+        Count::Null { used: _ } => Part::Refused(at(LENGTH_BELOW, 0)),
+        Count::Refused(e) => Part::Refused(e),
+    }
+}
+
+pub fn nullable_bytes(s: &[u8]) -> Nullable
+    ensures { λ r. ⌜ ofNullable r ≡ there (readBasic (byPlace false) (blob (fixed w32 kept)) 0 (now (s .entry))) ⌝ }
+{
+    match counts::length32(s) {
+        Count::Took { count, used } => present(contents(s, used, count)),
+        Count::Null { used } => Nullable::Took {
+            field: Field::Null,
+            used,
+        },
+        Count::Refused(e) => Nullable::Refused(e),
+    }
+}
+
+pub fn present(p: Part) -> Nullable
+    ensures { λ r. ⌜ ofNullable r ≡ there (somePart (ofPart p)) ⌝ }
+{
+    match p {
+        Part::Took { start, len, used } => Nullable::Took {
+            field: Field::Present { start, len },
+            used,
+        },
+        Part::Refused(e) => Nullable::Refused(e),
+    }
+}
+
+pub fn compact_bytes(s: &[u8]) -> Part
+    ensures { λ r. ⌜ ofPart r ≡ readBasic (byPlace false) (blob (compact never)) 0 (now (s .entry)) ⌝ }
+{
+    match counts::compact_length(s) {
+        Count::Took { count, used } => contents(s, used, count),
+        Count::Null { used: _ } => Part::Refused(at(LENGTH_ZERO, 0)),
+        Count::Refused(e) => Part::Refused(e),
+    }
+}
+
+// NULLABLE_BYTES, null shown as empty; the batches inside are not looked at.
+pub fn records(s: &[u8]) -> Part
+    ensures { λ r. ⌜ ofPart r ≡ readBasic (byPlace false) (blob (fixed w32 empty)) 0 (now (s .entry)) ⌝ }
+{
+    match counts::length32(s) {
+        Count::Took { count, used } => contents(s, used, count),
+        Count::Null { used } => contents(s, used, 0),
+        Count::Refused(e) => Part::Refused(e),
+    }
+}

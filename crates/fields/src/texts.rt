@@ -1,0 +1,82 @@
+// Texts: data that must be well-formed UTF-8.
+ghost use mathlib.Core.Path.{_≡_};
+ghost use mathlib.Core.Bool.{false};
+ghost use Rattle.layout.specs.Primitives.{compact, fixed, kept, never, w16};
+ghost use Rattle.layout.specs.Rows.{text};
+ghost use Rattle.layout.specs.Read.{byPlace, readBasic};
+ghost use Rattle.fields.specs.Answers.{ofNullable, ofPart, textBehind, there};
+use crate::Count;
+use crate::Field;
+use crate::Nullable;
+use crate::Part;
+use crate::counts;
+use crate::parts;
+use primitives::BYTES_END;
+use primitives::LENGTH_BELOW;
+use primitives::LENGTH_ZERO;
+use primitives::NOT_TEXT;
+use primitives::at;
+
+fn characters(s: &[u8], used: usize, count: u64) -> Part
+    ensures { λ r. ⌜ ofPart r ≡ textBehind used count (now (s .entry)) ⌝ }
+{
+    let left = parts::rest(s, used);
+    if (left.len() as u64) < count {
+        return Part::Refused(at(BYTES_END, 0));
+    }
+    let len = count as usize;
+    if utf8::is_text(&left[..len]) {
+        return Part::Took {
+            start: used,
+            len,
+            used: used + len,
+        };
+    }
+    Part::Refused(at(NOT_TEXT, 0))
+}
+
+pub fn string(s: &[u8]) -> Part
+    ensures { λ r. ⌜ ofPart r ≡ readBasic (byPlace false) (text (fixed w16 never)) 0 (now (s .entry)) ⌝ }
+{
+    match counts::length16(s) {
+        Count::Took { count, used } => characters(s, used, count),
+        Count::Null { used: _ } => Part::Refused(at(LENGTH_BELOW, 0)),
+        Count::Refused(e) => Part::Refused(e),
+    }
+}
+
+pub fn compact_string(s: &[u8]) -> Part
+    ensures { λ r. ⌜ ofPart r ≡ readBasic (byPlace false) (text (compact never)) 0 (now (s .entry)) ⌝ }
+{
+    match counts::compact_length(s) {
+        Count::Took { count, used } => characters(s, used, count),
+        Count::Null { used: _ } => Part::Refused(at(LENGTH_ZERO, 0)),
+        Count::Refused(e) => Part::Refused(e),
+    }
+}
+
+pub fn nullable_string(s: &[u8]) -> Nullable
+    ensures { λ r. ⌜ ofNullable r ≡ there (readBasic (byPlace false) (text (fixed w16 kept)) 0 (now (s .entry))) ⌝ }
+{
+    match counts::length16(s) {
+        Count::Took { count, used } => parts::present(characters(s, used, count)),
+        Count::Null { used } => Nullable::Took {
+            field: Field::Null,
+            used,
+        },
+        Count::Refused(e) => Nullable::Refused(e),
+    }
+}
+
+pub fn compact_nullable_string(s: &[u8]) -> Nullable
+    ensures { λ r. ⌜ ofNullable r ≡ there (readBasic (byPlace false) (text (compact kept)) 0 (now (s .entry))) ⌝ }
+{
+    match counts::compact_length(s) {
+        Count::Took { count, used } => parts::present(characters(s, used, count)),
+        Count::Null { used } => Nullable::Took {
+            field: Field::Null,
+            used,
+        },
+        Count::Refused(e) => Nullable::Refused(e),
+    }
+}

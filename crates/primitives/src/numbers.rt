@@ -1,0 +1,173 @@
+// Numbers at the front of what is left of a message: each reader takes the rest behind the primitive before it, and its promise speaks of that part.
+ghost use mathlib.Core.Path.{_≡_};
+ghost use Prim.Native.Nat.{_<_, _≤_};
+ghost use lib.ListN.{length, take};
+ghost use Rattle.layout.specs.Primitives.{be, cell, flag, int, unsigned, w8, w16, w32, w64};
+ghost use Rattle.primitives.specs.Answers.{ofFlag, ofNumber};
+use crate::BYTES_END;
+use crate::Flag;
+use crate::Number;
+use crate::VARINT_CONTINUES;
+use crate::at;
+
+fn wide(x: u8) -> u64
+    ensures { λ r. ⌜ (r ≡ x) × (r < 256) ⌝ }
+{
+    x as u64
+}
+
+fn two(s: &[u8]) -> u64
+    requires { ⌜ 2 ≤ length (now s) ⌝ }
+    ensures { λ r. ⌜ (r ≡ be 0 (take 2 (now (s .entry)))) × (r < 65536) ⌝ }
+{
+    wide(s[0]) * 256 + wide(s[1])
+}
+
+fn four(s: &[u8]) -> u64
+    requires { ⌜ 4 ≤ length (now s) ⌝ }
+    ensures { λ r. ⌜ (r ≡ be 0 (take 4 (now (s .entry)))) × (r < 4294967296) ⌝ }
+{
+    ((wide(s[0]) * 256 + wide(s[1])) * 256 + wide(s[2])) * 256 + wide(s[3])
+}
+
+fn eight(s: &[u8]) -> u64
+    requires { ⌜ 8 ≤ length (now s) ⌝ }
+    ensures { λ r. ⌜ r ≡ be 0 (take 8 (now (s .entry))) ⌝ }
+{
+    four(s) * 4294967296 + four(&s[4..])
+}
+
+// Not negative, as lengths are looked at.
+pub fn uint16(s: &[u8]) -> Number
+    ensures { λ r. ⌜ ofNumber r ≡ int 2 0 (now (s .entry)) ⌝ }
+{
+    if s.len() < 2 {
+        return Number::Refused(at(BYTES_END, 0));
+    }
+    Number::Took {
+        value: two(s),
+        used: 2,
+    }
+}
+
+pub fn uint32(s: &[u8]) -> Number
+    ensures { λ r. ⌜ ofNumber r ≡ int 4 0 (now (s .entry)) ⌝ }
+{
+    if s.len() < 4 {
+        return Number::Refused(at(BYTES_END, 0));
+    }
+    Number::Took {
+        value: four(s),
+        used: 4,
+    }
+}
+
+pub fn int8(s: &[u8]) -> Number
+    ensures { λ r. ⌜ ofNumber r ≡ cell w8 0 (now (s .entry)) ⌝ }
+{
+    if s.len() < 1 {
+        return Number::Refused(at(BYTES_END, 0));
+    }
+    let n = wide(s[0]);
+    if n < 128 {
+        return Number::Took { value: n, used: 1 };
+    }
+    Number::Took {
+        value: n + 18446744073709551360,
+        used: 1,
+    }
+}
+
+pub fn int16(s: &[u8]) -> Number
+    ensures { λ r. ⌜ ofNumber r ≡ cell w16 0 (now (s .entry)) ⌝ }
+{
+    if s.len() < 2 {
+        return Number::Refused(at(BYTES_END, 0));
+    }
+    let n = two(s);
+    if n < 32768 {
+        return Number::Took { value: n, used: 2 };
+    }
+    Number::Took {
+        value: n + 18446744073709486080,
+        used: 2,
+    }
+}
+
+pub fn int32(s: &[u8]) -> Number
+    ensures { λ r. ⌜ ofNumber r ≡ cell w32 0 (now (s .entry)) ⌝ }
+{
+    if s.len() < 4 {
+        return Number::Refused(at(BYTES_END, 0));
+    }
+    let n = four(s);
+    if n < 2147483648 {
+        return Number::Took { value: n, used: 4 };
+    }
+    Number::Took {
+        value: n + 18446744069414584320,
+        used: 4,
+    }
+}
+
+pub fn int64(s: &[u8]) -> Number
+    ensures { λ r. ⌜ ofNumber r ≡ cell w64 0 (now (s .entry)) ⌝ }
+{
+    if s.len() < 8 {
+        return Number::Refused(at(BYTES_END, 0));
+    }
+    Number::Took {
+        value: eight(s),
+        used: 8,
+    }
+}
+
+// Any byte but 0 is true.
+pub fn boolean(s: &[u8]) -> Flag
+    ensures { λ r. ⌜ ofFlag r ≡ flag 0 (now (s .entry)) ⌝ }
+{
+    if s.len() < 1 {
+        return Flag::Refused(at(BYTES_END, 0));
+    }
+    Flag::Took {
+        value: 0 < wide(s[0]),
+        used: 1,
+    }
+}
+
+// Seven bits a byte, lowest first. The tenth byte gives its lowest bit alone, and must not continue.
+pub fn unsigned_varint(s: &[u8]) -> Number
+    ensures { λ r. ⌜ ofNumber r ≡ unsigned 0 (now (s .entry)) ⌝ }
+{
+    let mut k: u64 = 9;
+    let mut weight: u64 = 1;
+    let mut value: u64 = 0;
+    let mut p: usize = 0;
+    while 0 < k {
+        if s.len() <= p {
+            return Number::Refused(at(BYTES_END, 0));
+        }
+        let b = wide(s[p]);
+        if b < 128 {
+            return Number::Took {
+                value: value + b * weight,
+                used: p + 1,
+            };
+        }
+        value = value + b % 128 * weight;
+        weight = weight * 128;
+        p = p + 1;
+        k = k - 1;
+    }
+    if s.len() <= p {
+        return Number::Refused(at(BYTES_END, 0));
+    }
+    let b = wide(s[p]);
+    if b < 128 {
+        return Number::Took {
+            value: value + b % 2 * weight,
+            used: p + 1,
+        };
+    }
+    Number::Refused(at(VARINT_CONTINUES, 0))
+}
