@@ -1,0 +1,69 @@
+# What the program must write, from docs/RULES.md and Python's own arithmetic: python3 expected.py > stdout
+
+
+def unsigned(n):
+    groups = []
+    while True:
+        groups.append(n % 128)
+        n //= 128
+        if n == 0:
+            break
+    return [g + 128 for g in groups[:-1]] + groups[-1:]
+
+
+def told(n, count):
+    print(f"{n}, used {count}")
+
+
+def refused(number, place=0, need=0):
+    print(f"{number} at {place}, need {need}")
+
+
+def shown(bs):
+    print("".join(f" {b:02x}" for b in bs))
+
+
+for k in range(0, 10):
+    for n in ([0, 127] if k == 0 else [128 ** k, min(128 ** (k + 1), 2 ** 64) - 1]):
+        shown(unsigned(n))
+        told(n, len(unsigned(n)))
+
+
+def eight(n, count):
+    print("".join(f" {b:02x}" for b in n.to_bytes(8, "big", signed=True)) + f", used {count}")
+
+
+# n from 0 on is carried as 2n, n below 0 as -2n - 1
+def signed(n, bits):
+    bs = unsigned(2 * n if n >= 0 else -2 * n - 1)
+    if -(2 ** (bits - 1)) <= n < 2 ** (bits - 1):
+        shown(bs)
+        eight(n, len(bs))
+    else:
+        # nothing is written, and the zero bytes of the output are read
+        refused(11)
+        eight(0, 1)
+
+
+for n in [-(2**31) - 1, -(2**31), -8193, -8192, -65, -64, -1, 0, 63, 64, 8191, 8192, 2**31 - 1, 2**31]:
+    signed(n, 32)
+for n in [-(2**63), -(2**62) - 1, -(2**62), -1, 0, 2**62 - 1, 2**62, 2**63 - 1]:
+    signed(n, 64)
+
+# the four texts
+print("4 from 2, used 6")
+for _ in range(3):
+    refused(7)
+
+# null string; below; compact 0 and 1; compact null; compact bytes 0; null records
+print("null, used 2")
+refused(4)
+refused(6)
+print("0 from 1, used 1")
+print("null, used 1")
+refused(6)
+print("0 from 4, used 4")
+
+# nothing is left for any of the eighteen
+for _ in range(18):
+    refused(3)
