@@ -4,9 +4,13 @@
 pub mod Stored
 -- the shortest form of an unsigned varint
 pub mod Shortest
+-- bytes copied, and what stands behind its length
+pub mod Sized
 -- the cell of a number, its zigzag, and the width that holds it
 pub mod Carried
 -- a primitive written by a call of its own
 pub mod Answered
+-- a length, a count or what stands behind a length written by a call of its own
+pub mod Judged
 -- a promise determines the reply and the output
 pub mod Unique

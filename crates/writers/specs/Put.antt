@@ -4,10 +4,14 @@ use lib.Dec.{leb, ltb}
 use lib.ListN.{drop, length}
 use mathlib.Core.Bool.{Bool, cond, false, true}
 use mathlib.Core.List.{List, [], _++_}
+use mathlib.Core.Option.{Option, none, some}
 use mathlib.Core.Path.{_≡_}
 use Rattle.layout.specs.Answers.{Answer, accepted, refused}
+use Rattle.layout.specs.Primitives.{Size, compact, fixed, lengthBytes, limit, never, nullBytes, w16, w32}
 use Rattle.layout.specs.Reading.{Refusal}
+use Rattle.layout.specs.Write.{or, unless}
 use Rattle.primitives.specs.Answers.{ofRefusal}
+use Rattle.writers.specs.declared.Form.{Form}
 use Rattle.writers.specs.declared.Written.{Written}
 
 abbrev pub noRoom : ℕ → Refusal
@@ -17,6 +21,32 @@ noRoom n = record { number = 10; place = 0; need = n }
 abbrev pub ofWritten : Written → Answer
 ofWritten (Written.Wrote n) = accepted [] n
 ofWritten (Written.Refused e) = refused (ofRefusal e)
+
+-- a length has the same bytes whatever null is
+abbrev pub sizeOf : Form → Size
+sizeOf Form.Int16 = fixed w16 never
+sizeOf Form.Int32 = fixed w32 never
+sizeOf Form.Compact = compact never
+
+-- a count, or null
+unfoldable pub countBytes : Size → Bool → ℕ → List ℕ
+countBytes z null n = cond null (nullBytes z) (lengthBytes z n)
+
+-- 11: a count that cannot be carried
+unfoldable pub countFault : Size → Bool → ℕ → ℕ
+countFault z null n = unless (cond null true (ltb n (limit z))) 11
+
+-- a text or data that is not null, behind its length
+unfoldable pub behindLength : Size → List ℕ → List ℕ
+behindLength z x = lengthBytes z (length x) ++ x
+
+-- 11: too long to be carried; else e, what is wrong inside
+unfoldable pub lengthFault : Size → List ℕ → ℕ → ℕ
+lengthFault z x e = or (unless (ltb (length x) (limit z)) 11) e
+
+-- null, or the value lent beside it
+abbrev pub nullOr : Bool → List ℕ → Option (List ℕ)
+nullOr null x = cond null none (some x)
 
 -- bs put into d: r tells how many they are, and d′ is what d is afterwards
 pub record Put (bs d : List ℕ) (r : ℕ) (d′ : List ℕ) : Type 0 where

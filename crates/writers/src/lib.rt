@@ -15,6 +15,13 @@ pub enum Written {
     Refused(Refusal),
 }
 
+// How a length or count is carried: as a signed number of so many bits, −1 for null; or one more than it as an unsigned varint, 0 for null.
+pub enum Form {
+    Int16,
+    Int32,
+    Compact,
+}
+
 // A refusal for want of room, with the bytes or rows needed.
 pub fn no_room(need: usize) -> Refusal
     ensures { λ r. ⌜ ofRefusal r ≡ noRoom need ⌝ }

@@ -2,8 +2,10 @@
 // It stores its bytes at the front where all of them fit, and nothing where they do not, and always tells how many they are.
 ghost use mathlib.Core.Path.{_≡_};
 ghost use lib.ListN.{length};
-ghost use Rattle.layout.specs.Primitives.{bytes, flagBytes, unsignedBytes};
-ghost use Rattle.writers.specs.Put.{Put};
+ghost use Prim.Native.Nat.{_-_, _<_, _^_};
+ghost use Rattle.layout.specs.Primitives.{bytes, flagBytes, lengthBytes, nullBytes, unsignedBytes};
+ghost use Rattle.writers.specs.Put.{Put, behindLength, countBytes, sizeOf};
+use crate::Form;
 
 // The lowest k bytes of the cell, highest first.
 pub fn lowest(out: &mut [u8], cell: u64, k: usize) -> usize
@@ -85,4 +87,67 @@ pub fn unsigned_varint(out: &mut [u8], n: u64) -> usize
         out[p] = left as u8;
     }
     count
+}
+
+// The bytes themselves.
+pub fn raw(out: &mut [u8], content: &[u8]) -> usize
+    ensures { λ r. ⌜ Put (now (content .entry)) (now (out .entry)) r (now (out .exit)) ⌝ }
+{
+    if content.len() <= out.len() {
+        let mut p: usize = 0;
+        while p < content.len() {
+            out[p] = content[p];
+            p = p + 1;
+        }
+    }
+    content.len()
+}
+
+// How many bytes a length takes.
+pub fn length_size(form: Form, n: u64) -> usize
+    requires { ⌜ n < 2 ^ 64 - 1 ⌝ }
+    ensures { λ r. ⌜ r ≡ length (lengthBytes (sizeOf form) n) ⌝ }
+{
+    match form {
+        Form::Int16 => 2,
+        Form::Int32 => 4,
+        Form::Compact => varint_length(n + 1),
+    }
+}
+
+// The length or count of what follows.
+pub fn length(out: &mut [u8], form: Form, n: u64) -> usize
+    requires { ⌜ n < 2 ^ 64 - 1 ⌝ }
+    ensures { λ r. ⌜ Put (lengthBytes (sizeOf form) n) (now (out .entry)) r (now (out .exit)) ⌝ }
+{
+    match form {
+        Form::Int16 => int16(out, n),
+        Form::Int32 => int32(out, n),
+        Form::Compact => unsigned_varint(out, n + 1),
+    }
+}
+
+// Null in the place of a length or count.
+pub fn null(out: &mut [u8], form: Form) -> usize
+    ensures { λ r. ⌜ Put (nullBytes (sizeOf form)) (now (out .entry)) r (now (out .exit)) ⌝ }
+{
+    match form {
+        Form::Int16 => int16(out, 65535),
+        Form::Int32 => int32(out, 4294967295),
+        Form::Compact => unsigned_varint(out, 0),
+    }
+}
+
+// A text or data behind its length.
+pub fn sized(out: &mut [u8], form: Form, content: &[u8]) -> usize
+    ensures { λ r. ⌜ Put (behindLength (sizeOf form) (now (content .entry))) (now (out .entry)) r (now (out .exit)) ⌝ }
+{
+    let count = content.len() as u64;
+    let head = length_size(form, count);
+    let all = head + content.len();
+    if all <= out.len() {
+        length(out, form, count);
+        raw(&mut out[head..], content);
+    }
+    all
 }

@@ -1,15 +1,21 @@
 // The calls: each judges the number that it is given, and writes it at the front of the output that it is lent.
 ghost use mathlib.Core.Path.{_≡_};
+ghost use mathlib.Core.Bool.{cond};
 ghost use lib.Dec.{ltb};
 ghost use Prim.Native.Nat.{_^_, _≤_};
-ghost use Rattle.layout.specs.Primitives.{bytes, cellOf, flagBytes, holds, integerBytes, unsignedBytes, zigzag, zigzagBytes, w8, w16, w32, w64};
-ghost use Rattle.layout.specs.Write.{unless};
+ghost use Rattle.layout.specs.Primitives.{bytes, cellOf, flagBytes, holds, integerBytes, limit, nullBytes, unsignedBytes, zigzag, zigzagBytes};
+ghost use Rattle.layout.specs.Primitives.{compact, empty, fixed, kept, never, w8, w16, w32, w64};
+ghost use Rattle.layout.specs.Rows.{blob, text};
+ghost use Rattle.layout.specs.Write.{basicFault, unless, writeBasic};
 ghost use Rattle.layout.specs.Answers.{writeAlone};
-ghost use Rattle.writers.specs.Put.{ofWritten};
-ghost use Rattle.writers.specs.Put.{replied, told, within};
+ghost use Rattle.writers.specs.Put.{behindLength, countBytes, countFault, lengthFault, nullOr, ofWritten, replied, sizeOf, told, within};
+use crate::Form;
 use crate::Written;
 use crate::no_room;
 use crate::put;
+use primitives::MOST;
+use primitives::NOT_TEXT;
+use primitives::TOO_LONG;
 use primitives::TOO_WIDE;
 use primitives::at;
 
@@ -117,4 +123,131 @@ pub fn varlong(out: &mut [u8], value: i64) -> Written
     ensures { λ r. ⌜ replied r (now (out .exit)) ≡ writeAlone 0 (zigzagBytes value) (now (out .entry)) ⌝ }
 {
     unsigned_varint(out, zigzagged(value))
+}
+
+// ---- lengths and counts, and what stands behind them
+
+// Lengths from here on cannot be carried.
+fn limit(form: Form) -> u64
+    ensures { λ r. ⌜ r ≡ limit (sizeOf form) ⌝ }
+{
+    match form {
+        Form::Int16 => 32768,
+        Form::Int32 => 2147483648,
+        Form::Compact => 18446744073709551615,
+    }
+}
+
+// Null in the place of a length.
+fn null_length(out: &mut [u8], form: Form) -> Written
+    ensures { λ r. ⌜ replied r (now (out .exit)) ≡ writeAlone 0 (nullBytes (sizeOf form)) (now (out .entry)) ⌝ }
+{
+    answer(out.len(), put::null(out, form))
+}
+
+// A count, or null.
+fn count(out: &mut [u8], form: Form, null: bool, n: u64) -> Written
+    ensures { λ r. ⌜ replied r (now (out .exit)) ≡ writeAlone (countFault (sizeOf form) null n) (countBytes (sizeOf form) null n) (now (out .entry)) ⌝ }
+{
+    if null {
+        return null_length(out, form);
+    }
+    if n < limit(form) {
+        return answer(out.len(), put::length(out, form, n));
+    }
+    Written::Refused(at(TOO_WIDE, 0))
+}
+
+// A text or data that the form can carry, behind its length. Its size is known before anything is stored.
+fn carried(out: &mut [u8], form: Form, value: &[u8]) -> Written
+    ensures { λ r. ⌜ replied r (now (out .exit)) ≡ writeAlone (0) (behindLength (sizeOf form) (now (value .entry))) (now (out .entry)) ⌝ }
+{
+    let all = put::length_size(form, value.len() as u64) + value.len();
+    if MOST < all {
+        return Written::Refused(at(TOO_LONG, 0));
+    }
+    answer(out.len(), put::sized(out, form, value))
+}
+
+// A text or data behind its length; `good` says that a text is UTF-8, and data always are.
+fn sized(out: &mut [u8], form: Form, value: &[u8], good: bool) -> Written
+    ensures { λ r. ⌜ replied r (now (out .exit)) ≡ writeAlone (lengthFault (sizeOf form) (now (value .entry)) (unless good 7)) (behindLength (sizeOf form) (now (value .entry))) (now (out .entry)) ⌝ }
+{
+    if limit(form) <= value.len() as u64 {
+        return Written::Refused(at(TOO_WIDE, 0));
+    }
+    if good {
+        return carried(out, form, value);
+    }
+    Written::Refused(at(NOT_TEXT, 0))
+}
+
+// The same, or null.
+fn nullable(out: &mut [u8], form: Form, null: bool, value: &[u8], good: bool) -> Written
+    ensures { λ r. ⌜ replied r (now (out .exit)) ≡ writeAlone (cond null 0 (lengthFault (sizeOf form) (now (value .entry)) (unless good 7))) (cond null (nullBytes (sizeOf form)) (behindLength (sizeOf form) (now (value .entry)))) (now (out .entry)) ⌝ }
+{
+    if null {
+        return null_length(out, form);
+    }
+    sized(out, form, value, good)
+}
+
+pub fn string(out: &mut [u8], value: &[u8]) -> Written
+    ensures { λ r. ⌜ replied r (now (out .exit)) ≡ writeAlone (basicFault (text (fixed w16 never)) (now (value .entry))) (writeBasic (text (fixed w16 never)) (now (value .entry))) (now (out .entry)) ⌝ }
+{
+    sized(out, Form::Int16, value, utf8::is_text(value))
+}
+
+pub fn nullable_string(out: &mut [u8], null: bool, value: &[u8]) -> Written
+    ensures { λ r. ⌜ replied r (now (out .exit)) ≡ writeAlone (basicFault (text (fixed w16 kept)) (nullOr null (now (value .entry)))) (writeBasic (text (fixed w16 kept)) (nullOr null (now (value .entry)))) (now (out .entry)) ⌝ }
+{
+    nullable(out, Form::Int16, null, value, utf8::is_text(value))
+}
+
+pub fn compact_string(out: &mut [u8], value: &[u8]) -> Written
+    ensures { λ r. ⌜ replied r (now (out .exit)) ≡ writeAlone (basicFault (text (compact never)) (now (value .entry))) (writeBasic (text (compact never)) (now (value .entry))) (now (out .entry)) ⌝ }
+{
+    sized(out, Form::Compact, value, utf8::is_text(value))
+}
+
+pub fn compact_nullable_string(out: &mut [u8], null: bool, value: &[u8]) -> Written
+    ensures { λ r. ⌜ replied r (now (out .exit)) ≡ writeAlone (basicFault (text (compact kept)) (nullOr null (now (value .entry)))) (writeBasic (text (compact kept)) (nullOr null (now (value .entry)))) (now (out .entry)) ⌝ }
+{
+    nullable(out, Form::Compact, null, value, utf8::is_text(value))
+}
+
+pub fn bytes(out: &mut [u8], value: &[u8]) -> Written
+    ensures { λ r. ⌜ replied r (now (out .exit)) ≡ writeAlone (basicFault (blob (fixed w32 never)) (now (value .entry))) (writeBasic (blob (fixed w32 never)) (now (value .entry))) (now (out .entry)) ⌝ }
+{
+    sized(out, Form::Int32, value, true)
+}
+
+pub fn nullable_bytes(out: &mut [u8], null: bool, value: &[u8]) -> Written
+    ensures { λ r. ⌜ replied r (now (out .exit)) ≡ writeAlone (basicFault (blob (fixed w32 kept)) (nullOr null (now (value .entry)))) (writeBasic (blob (fixed w32 kept)) (nullOr null (now (value .entry)))) (now (out .entry)) ⌝ }
+{
+    nullable(out, Form::Int32, null, value, true)
+}
+
+pub fn compact_bytes(out: &mut [u8], value: &[u8]) -> Written
+    ensures { λ r. ⌜ replied r (now (out .exit)) ≡ writeAlone (basicFault (blob (compact never)) (now (value .entry))) (writeBasic (blob (compact never)) (now (value .entry))) (now (out .entry)) ⌝ }
+{
+    sized(out, Form::Compact, value, true)
+}
+
+pub fn records(out: &mut [u8], value: &[u8]) -> Written
+    ensures { λ r. ⌜ replied r (now (out .exit)) ≡ writeAlone (basicFault (blob (fixed w32 empty)) (now (value .entry))) (writeBasic (blob (fixed w32 empty)) (now (value .entry))) (now (out .entry)) ⌝ }
+{
+    sized(out, Form::Int32, value, true)
+}
+
+pub fn array_count(out: &mut [u8], null: bool, n: u64) -> Written
+    ensures { λ r. ⌜ replied r (now (out .exit)) ≡ writeAlone (countFault (fixed w32 kept) null n) (countBytes (fixed w32 kept) null n) (now (out .entry)) ⌝ }
+{
+    count(out, Form::Int32, null, n)
+}
+
+pub fn compact_array_count(out: &mut [u8], null: bool, n: u64) -> Written
+    ensures { λ r. ⌜ replied r (now (out .exit)) ≡ writeAlone (countFault (compact kept) null n) (countBytes (compact kept) null n) (now (out .entry)) ⌝ }
+{
+    count(out, Form::Compact, null, n)
 }

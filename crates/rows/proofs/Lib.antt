@@ -1,0 +1,2 @@
+-- a step behind another, and item behind item
+pub mod Step

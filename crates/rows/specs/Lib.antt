@@ -1,0 +1,2 @@
+-- what a writer leaves in the output that it is lent
+pub mod Step

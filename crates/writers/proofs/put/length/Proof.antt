@@ -1,0 +1,64 @@
+use Rattle.layout.specs.Primitives.{lengthBytes}
+use borrow.Author.Needs.{needs}
+use Rattle.writers.proofs.put.length.Statement.{statement}
+use Rattle.writers.proofs.put.length.Tie as tie
+
+enum-told : tie.Need-enum-told
+enum-told c = search needs
+
+int16-requires : tie.Need-int16-requires
+int16-requires c κs = search needs
+
+enum-told-2 : tie.Need-enum-told-2
+enum-told-2 c = search needs
+
+int32-requires : tie.Need-int32-requires
+int32-requires c κs = search needs
+
+enum-told-3 : tie.Need-enum-told-3
+enum-told-3 c = search needs
+
+add-unsigned-varint : tie.Need-add-unsigned-varint
+add-unsigned-varint c = search needs
+
+unsigned-varint-requires : tie.Need-unsigned-varint-requires
+unsigned-varint-requires c κs = search needs
+
+same-length : tie.Need-same-length
+same-length c = search needs
+
+returns : tie.Need-returns
+unfolding lengthBytes
+returns c = rw (c .before .before .before .before .enum-told .given .1) (c .before .before .int16 .ensures)
+
+same-length-2 : tie.Need-same-length-2
+same-length-2 c = search needs
+
+returns-2 : tie.Need-returns-2
+unfolding lengthBytes
+returns-2 c = rw (c .before .before .before .before .enum-told2 .given .1) (c .before .before .int32 .ensures)
+
+same-length-3 : tie.Need-same-length-3
+same-length-3 c = search needs
+
+returns-3 : tie.Need-returns-3
+unfolding lengthBytes
+returns-3 c = rw (c .before .before .before .before .enum-told3 .given .1) (c .before .before .unsigned-varint .ensures)
+
+pub length-spec : {M : Type 1} → statement M
+length-spec =
+    tie.close
+    (tie.spec
+    enum-told
+    int16-requires
+    enum-told-2
+    int32-requires
+    enum-told-3
+    add-unsigned-varint
+    unsigned-varint-requires
+    same-length
+    returns
+    same-length-2
+    returns-2
+    same-length-3
+    returns-3)
