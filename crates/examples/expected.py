@@ -55,6 +55,19 @@ print("4 from 2, used 6")
 for _ in range(3):
     refused(7)
 
+# written: the first of them, and 7 for the others; six bytes have no room for the seven of "abcde" and its length
+shown([0, 4, 0xF4, 0x8F, 0xBF, 0xBF])
+for _ in range(3):
+    refused(7)
+refused(10, 0, 7)
+
+# 32,767 bytes are written, behind two of their length, and read; 32,768 give 11, but have a compact length
+print(f"{2 + 32767} bytes")
+print(f"32767 from 2, used {2 + 32767}")
+refused(11)
+refused(11)
+print(f"{len(unsigned(32768 + 1)) + 32768} bytes")
+
 # null string; below; compact 0 and 1; compact null; compact bytes 0; null records
 print("null, used 2")
 refused(4)

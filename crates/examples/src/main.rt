@@ -251,6 +251,44 @@ fn texts() {
     part(fields::read::string(&[0, 3, 0xED, 0xA0, 0x80]));
 }
 
+fn written(text: &[u8]) {
+    let mut out = [0u8; 6];
+    let r = writers::write::string(&mut out, text);
+    wrote(&out, r);
+    say(b"\n");
+}
+
+fn written_texts() {
+    written(&[0xF4, 0x8F, 0xBF, 0xBF]);
+    written(&[0xF4, 0x90, 0x80, 0x80]);
+    written(&[0xC0, 0x80]);
+    written(&[0xED, 0xA0, 0x80]);
+    written(b"abcde");
+}
+
+fn size(r: Written) {
+    match r {
+        Written::Wrote(n) => {
+            decimal(n as u64);
+            say(b" bytes\n");
+        }
+        Written::Refused(e) => {
+            refused(e);
+            say(b"\n");
+        }
+    }
+}
+
+fn long_texts() {
+    let text = [b'a'; 32768];
+    let mut out = io::large_buffer();
+    size(writers::write::string(&mut out, &text[..32767]));
+    part(fields::read::string(&out));
+    size(writers::write::string(&mut out, &text));
+    size(writers::write::nullable_string(&mut out, false, &text));
+    size(writers::write::compact_string(&mut out, &text));
+}
+
 fn lengths() {
     nullable(fields::read::nullable_string(&[0xFF, 0xFF]));
     nullable(fields::read::nullable_string(&[0xFF, 0xFE]));
@@ -290,6 +328,8 @@ fn main() {
     varints();
     varlongs();
     texts();
+    written_texts();
+    long_texts();
     lengths();
     no_numbers(&[]);
     no_fields(&[]);
