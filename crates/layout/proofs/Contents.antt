@@ -243,7 +243,7 @@ module _ (W : ℕ → ℕ) where
       go y a false e = a
   rows-wide t (lacking z u i r) x h = rows-wide t r x h
 
-joined-length : (w : ℕ) (rs : List (List ℕ)) → All (λ r. length r ≡ w) rs → length (joined rs) ≡ length rs * w
+pub joined-length : (w : ℕ) (rs : List (List ℕ)) → All (λ r. length r ≡ w) rs → length (joined rs) ≡ length rs * w
 joined-length w [] h = sym (zero-mul w)
 joined-length w (r ∷ rs) h = length-append r (joined rs) ∙ (λ i. h .0 i + joined-length w rs (h .1) i) ∙ add-comm w (length rs * w) ∙ sym (suc-mul (length rs) w)
 

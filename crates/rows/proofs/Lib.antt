@@ -1,2 +1,21 @@
 -- a step behind another, and item behind item
 pub mod Step
+-- one step of a reader at a place of the message
+pub mod Steps
+-- a loop over items
+pub mod Loops
+-- stores one after the other
+pub mod Stores
+-- two ways of keeping rows
+pub mod Alike
+-- how many cells a body lays
+pub mod Bound
+-- from a walk to the rows that it read, and to the answer of a call
+pub mod Close
+pub mod Reply
+-- a primitive at another place
+pub mod Moves
+-- a row as one read and one store
+pub mod Flat
+-- a row's end and its arrays
+pub mod Arrays

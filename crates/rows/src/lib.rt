@@ -1,1 +1,33 @@
-// What the walks over all bodies share, definitions and laws alone: a writer's step, and how steps compose.
+// Stores into the tables that a caller lends. A store has room or not, and the mark always moves on, so that the same walk measures and fills.
+ghost use mathlib.Core.Path.{_≡_};
+ghost use mathlib.Core.List.{[], _∷_};
+ghost use Rattle.rows.specs.Store.{step, store, tab};
+
+// Far beyond every table: a mark stops here.
+pub const LIMIT: usize = 4611686018427387904;
+
+fn stepped(mark: usize) -> usize
+    ensures { λ r. ⌜ r ≡ step mark ⌝ }
+{
+    if mark < LIMIT { mark + 1 } else { mark }
+}
+
+// Stores the cell at the mark where there is room; the result is the next mark.
+pub fn store(table: &mut [u64], mark: usize, cell: u64) -> usize
+    ensures { λ r. ⌜ tab (now (table .exit)) r ≡ store (tab (now (table .entry)) mark) (cell ∷ []) ⌝ }
+{
+    let next = stepped(mark);
+    if mark < table.len() {
+        table[mark] = cell;
+    }
+    next
+}
+
+// A row of three cells.
+pub fn store3(table: &mut [u64], mark: usize, a: u64, b: u64, c: u64) -> usize
+    ensures { λ r. ⌜ tab (now (table .exit)) r ≡ store (tab (now (table .entry)) mark) (a ∷ b ∷ c ∷ []) ⌝ }
+{
+    let second = store(table, mark, a);
+    let third = store(table, second, b);
+    store(table, third, c)
+}

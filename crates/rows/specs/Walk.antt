@@ -1,0 +1,28 @@
+-- What a walk over a part of a body promises: one equation with the tables that it was given and those that it leaves. Assumes nothing.
+use mathlib.Core.Bool.{Bool}
+use mathlib.Core.List.{List}
+use mathlib.Core.Path.{_≡_}
+use Prim.Native.Nat.{ℕ}
+use lib.ListN.{drop}
+use Rattle.layout.specs.Reading.{Reader, Res, more}
+use Rattle.layout.specs.Rows.{Shape}
+use Rattle.layout.specs.Tables.{readRows}
+use Rattle.rows.specs.Store.{State, Tab, add, store}
+
+-- a reader at place p of the message s; what it used counts from the message's start
+unfoldable pub on : {A : Type 0} → Reader A → List ℕ → ℕ → Res A
+on r s p = more p (r p (drop p s))
+
+-- the one reader of all layouts, with stores into lent tables
+abbrev pub walk : Bool → Shape → ℕ → State → Reader State
+walk w l o st = readRows w add l o st
+
+-- a table's place among all: h puts it there, and what is added to table o is stored in it
+pub record Place : Type 0 where
+  pub h : Tab → State
+  pub o : ℕ
+  pub law : (x : Tab) (cs : List ℕ) → add o cs (h x) ≡ h (store x cs)
+
+-- Run from b at p, the walk comes to f. e is what the walk does not touch, the other tables or where its own stand among them: it may be anything
+pub record Runs {E : Type 0} (x : E → State → Reader State) (s : List ℕ) (p : ℕ) (b : E → State) (f : E → Res State) : Type 0 where
+  pub law : (e : E) → f e ≡ on (x e (b e)) s p

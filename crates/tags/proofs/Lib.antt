@@ -1,0 +1,10 @@
+-- a varint at a place, data behind its length, and a tag's row
+pub mod Varints
+pub mod Data
+pub mod Rows
+-- a turn of the loop
+pub mod Turns
+-- the number of tags and the tags
+pub mod Count
+-- the whole reply
+pub mod Replies

@@ -1,0 +1,66 @@
+-- Size, bytes, room, rows: each way out is a law of all messages, at the message of tagged fields alone.
+use Rattle.tags.proofs.Replies.{reply-long, reply-needs, reply-no, reply-took}
+use borrow.Author.Needs.{needs}
+use Rattle.tags.proofs.tagged_fields.Statement.{statement}
+use Rattle.tags.proofs.tagged_fields.Tie as tie
+
+at-requires : tie.Need-at-requires
+at-requires c κs = search needs
+
+returns : tie.Need-returns
+returns c = reply-long _ _ _ (c .at .ensures) (search needs)
+
+slice-relend-prefix-tag-buffer : tie.Need-slice-relend-prefix-tag-buffer
+slice-relend-prefix-tag-buffer c = search needs
+
+slice-aggregate-tag-buffer : tie.Need-slice-aggregate-tag-buffer
+slice-aggregate-tag-buffer c = search needs
+
+tag-buffer-requires : tie.Need-tag-buffer-requires
+tag-buffer-requires c κs = search needs
+
+enum-known-count : tie.Need-enum-known-count
+enum-known-count c = search needs
+
+same-length : tie.Need-same-length
+same-length c = search needs
+
+returns-2 : tie.Need-returns-2
+returns-2 c = reply-needs _ _ (search needs) _ _ _ (c .before .before .before .before .before .before .tag-buffer .ensures) (search needs) _ _ _ (c .before .before .count .given .1) (c .if2 .taken)
+
+tag-buffer-requires-2 : tie.Need-tag-buffer-requires-2
+tag-buffer-requires-2 c κs = search needs
+
+enum-known-e : tie.Need-enum-known-e
+enum-known-e c = search needs
+
+same-length-2 : tie.Need-same-length-2
+same-length-2 c = search needs
+
+returns-3 : tie.Need-returns-3
+returns-3 c = reply-took _ _ (search needs) _ _ _ (c .before .before .before .before .before .before .before .before .before .before .tag-buffer .ensures) (search needs) _ _ _ (c .before .before .before .before .before .before .count .given .1) (search needs) _ (c .before .before .tag-buffer2 .result) (c .before .before .tag-buffer2 .ensures)
+
+same-length-3 : tie.Need-same-length-3
+same-length-3 c = search needs
+
+returns-4 : tie.Need-returns-4
+returns-4 c = reply-no _ _ (search needs) _ _ _ (c .before .before .before .before .before .tag-buffer .ensures) (search needs) _ (c .before .e .given .1)
+
+pub tagged-fields-spec : {M : Type 1} → statement M
+tagged-fields-spec =
+    tie.close
+    (tie.spec
+    at-requires
+    returns
+    slice-relend-prefix-tag-buffer
+    slice-aggregate-tag-buffer
+    tag-buffer-requires
+    enum-known-count
+    same-length
+    returns-2
+    tag-buffer-requires-2
+    enum-known-e
+    same-length-2
+    returns-3
+    same-length-3
+    returns-4)

@@ -1,0 +1,41 @@
+-- What the answers about tagged fields say in the definition's words.
+use mathlib.Core.Bool.{Bool}
+use mathlib.Core.List.{List, [], _∷_}
+use Prim.Native.Nat.{ℕ}
+use Rattle.layout.specs.Reading.{Res, bad, ok}
+use Rattle.layout.specs.Primitives.{plain}
+use Rattle.layout.specs.Rows.{Shape, Value, blob, end, field, natural}
+use Rattle.layout.specs.Tables.{Span}
+use Rattle.layout.specs.Answers.{Answer, accepted, refused}
+use Rattle.primitives.specs.Answers.{ofRefusal}
+use Rattle.rows.specs.Store.{State, own, tab}
+use Rattle.rows.specs.Walk.{Place}
+use Rattle.tags.specs.declared.Tag.{Tag}
+use Rattle.tags.specs.declared.Tagged.{Tagged}
+use Rattle.tags.specs.declared.Tags.{Tags}
+use Rattle.tags.specs.declared.Walked.{Walked}
+
+-- a tag's row: the tag, and its data
+abbrev pub tagShape : Shape
+tagShape = field natural (field (blob plain) end)
+
+abbrev pub ofTag : Tag → Res (Value Span tagShape)
+ofTag (Tag.Took t a k n) = ok (t, ((a, k), tt)) n
+ofTag (Tag.Refused e) = bad (ofRefusal e)
+
+-- the table of a walk over tags, wherever it stands among the others, in a whole read or not
+abbrev pub inTable : List ℕ → ℕ → Bool × Place → State
+inTable l k e = e .1 .h (tab l k)
+
+abbrev pub inTableIs : List ℕ → Tags → Bool × Place → Res State
+inTableIs l (Tags.Took n k) e = ok (inTable l k e) n
+inTableIs l (Tags.Refused c) e = bad (ofRefusal c)
+
+-- the own row holds the number of tags
+abbrev pub ofWalked : List ℕ → Walked → Res State
+ofWalked l (Walked.Took c n k) = ok (own (c ∷ []) ∷ tab l k ∷ []) n
+ofWalked l (Walked.Refused e) = bad (ofRefusal e)
+
+abbrev pub ofTagged : Tagged → Answer
+ofTagged (Tagged.Took k n) = accepted (k ∷ []) n
+ofTagged (Tagged.Refused e) = refused (ofRefusal e)

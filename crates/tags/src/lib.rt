@@ -1,0 +1,198 @@
+// Tagged fields, read: a number of tags, each with its data behind the data's length. Their rows (tag, start, length) go to a lent table.
+ghost use mathlib.Core.Path.{_≡_};
+ghost use mathlib.Core.Bool.{false};
+ghost use mathlib.Core.List.{[], _∷_};
+ghost use lib.IntN.{pos};
+ghost use Rattle.layout.specs.Reading.{loop};
+ghost use Rattle.layout.specs.Primitives.{plain, unsigned};
+ghost use Rattle.layout.specs.Rows.{blob};
+ghost use Rattle.layout.specs.Read.{byPlace, read, readBasic};
+ghost use Rattle.layout.specs.Answers.{prefixRead, shape, tagsAlone};
+ghost use Rattle.primitives.specs.Answers.{ofNumber};
+ghost use Rattle.fields.specs.Answers.{ofPart};
+ghost use Rattle.rows.specs.Store.{own, tab};
+ghost use Rattle.rows.specs.Walk.{Runs, on, walk};
+ghost use Rattle.tags.specs.Answers.{inTable, inTableIs, ofTag, ofTagged, ofWalked, tagShape};
+use fields::Part;
+use fields::parts;
+use primitives::BYTES_END;
+use primitives::MOST;
+use primitives::NO_ROOM;
+use primitives::Number;
+use primitives::Refusal;
+use primitives::TOO_LONG;
+use primitives::at;
+use primitives::numbers;
+use rows::store3;
+
+// A tag, where its data stand, and the place behind them.
+pub enum Tag {
+    Took {
+        tag: u64,
+        start: usize,
+        len: usize,
+        next: usize,
+    },
+    Refused(Refusal),
+}
+
+// The place behind the tags, and the table's mark.
+pub enum Tags {
+    Took { next: usize, mark: usize },
+    Refused(Refusal),
+}
+
+// The number of tags, the bytes used, and the table's mark.
+pub enum Walked {
+    Took {
+        count: u64,
+        used: usize,
+        mark: usize,
+    },
+    Refused(Refusal),
+}
+
+// The number of tags and the bytes used.
+pub enum Tagged {
+    Took { count: u64, used: usize },
+    Refused(Refusal),
+}
+
+// The unsigned varint at place p; what it used counts from the message's start.
+pub fn varint_at(s: &[u8], p: usize) -> Number
+    ensures { λ r. ⌜ ofNumber r ≡ on unsigned (now (s .entry)) p ⌝ }
+{
+    match numbers::unsigned_varint(parts::rest(s, p)) {
+        Number::Took { value, used } => Number::Took {
+            value,
+            used: p + used,
+        },
+        Number::Refused(e) => Number::Refused(at(e.number, p)),
+    }
+}
+
+// Data at place p: its length as an unsigned varint, and so many bytes.
+pub fn data_at(s: &[u8], p: usize) -> Part
+    ensures { λ r. ⌜ ofPart r ≡ on (readBasic (byPlace false) (blob plain)) (now (s .entry)) p ⌝ }
+{
+    match varint_at(s, p) {
+        Number::Took { value, used } => {
+            let left = parts::rest(s, used);
+            if (left.len() as u64) < value {
+                return Part::Refused(at(BYTES_END, p));
+            }
+            let len = value as usize;
+            Part::Took {
+                start: used,
+                len,
+                used: used + len,
+            }
+        }
+        Number::Refused(e) => Part::Refused(e),
+    }
+}
+
+pub fn tag_at(s: &[u8], p: usize) -> Tag
+    ensures { λ r. ⌜ ofTag r ≡ on (read (byPlace false) tagShape) (now (s .entry)) p ⌝ }
+{
+    match varint_at(s, p) {
+        Number::Took { value, used } => match data_at(s, used) {
+            Part::Took {
+                start,
+                len,
+                used: next,
+            } => Tag::Took {
+                tag: value,
+                start,
+                len,
+                next,
+            },
+            Part::Refused(e) => Tag::Refused(e),
+        },
+        Number::Refused(e) => Tag::Refused(e),
+    }
+}
+
+// One tag into the table, where there is room.
+fn tag_in(s: &[u8], p: usize, table: &mut [u64], mark: usize) -> Tags
+    ensures { λ r. ⌜ Runs (λ e. walk (e .0) tagShape (e .1 .o)) (now (s .entry)) p (inTable (now (table .entry)) mark) (inTableIs (now (table .exit)) r) ⌝ }
+{
+    match tag_at(s, p) {
+        Tag::Took {
+            tag,
+            start,
+            len,
+            next,
+        } => {
+            let behind = store3(table, mark, tag, start as u64, len as u64);
+            Tags::Took { next, mark: behind }
+        }
+        Tag::Refused(e) => Tags::Refused(e),
+    }
+}
+
+// `count` tags from place p on. The bytes end long before a count that they cannot hold.
+pub fn tags_at(s: &[u8], p: usize, count: u64, table: &mut [u64], mark: usize) -> Tags
+    ensures { λ r. ⌜ Runs (λ e. loop count (walk (e .0) tagShape (e .1 .o))) (now (s .entry)) p (inTable (now (table .entry)) mark) (inTableIs (now (table .exit)) r) ⌝ }
+{
+    let mut left = count;
+    let mut next_place = p;
+    let mut next_mark = mark;
+    while 0 < left {
+        match tag_in(s, next_place, table, next_mark) {
+            Tags::Took { next, mark: behind } => {
+                next_place = next;
+                next_mark = behind;
+                left = left - 1;
+            }
+            Tags::Refused(e) => {
+                return Tags::Refused(e);
+            }
+        }
+    }
+    Tags::Took {
+        next: next_place,
+        mark: next_mark,
+    }
+}
+
+// The number of tags and the tags, from the message's start into the table's start.
+fn tag_buffer(msg: &[u8], table: &mut [u64]) -> Walked
+    ensures { λ r. ⌜ ofWalked (now (table .exit)) r ≡ on (walk false (shape tagsAlone 0) 0 (own [] ∷ tab (now (table .entry)) 0 ∷ [])) (now (msg .entry)) 0 ⌝ }
+{
+    match varint_at(msg, 0) {
+        Number::Took { value, used } => match tags_at(msg, used, value, table, 0) {
+            Tags::Took { next, mark } => Walked::Took {
+                count: value,
+                used: next,
+                mark,
+            },
+            Tags::Refused(e) => Walked::Refused(e),
+        },
+        Number::Refused(e) => Walked::Refused(e),
+    }
+}
+
+// Tagged fields at the front of a message. The rows go to the table from its start on, three cells each; after a refusal the table is as it was.
+pub fn tagged_fields(msg: &[u8], table: &mut [u64]) -> Tagged
+    ensures { λ r. ⌜ (ofTagged r, now (table .exit) ∷ []) ≡ prefixRead tagsAlone (pos 0) (now (table .entry) ∷ []) (now (msg .entry)) ⌝ }
+{
+    if MOST < msg.len() {
+        return Tagged::Refused(at(TOO_LONG, 0));
+    }
+    // Over no room the walk measures.
+    match tag_buffer(msg, &mut table[..0]) {
+        Walked::Took { count, used, mark } => {
+            if table.len() / 3 < mark / 3 {
+                return Tagged::Refused(Refusal {
+                    number: NO_ROOM,
+                    place: 0,
+                    need: mark / 3,
+                });
+            }
+            tag_buffer(msg, table);
+            Tagged::Took { count, used }
+        }
+        Walked::Refused(e) => Tagged::Refused(e),
+    }
+}
