@@ -10,7 +10,7 @@ use Rattle.layout.specs.Reading.{Reader, give, loop, ok, primitive, then}
 use Rattle.layout.specs.Primitives.{Size, Width, admits, cell, checked, compact, fixed, flag, int, keeps, lengthOf, plain, refusal, size, sized, unsigned, w8, w16, w32, w64}
 use Rattle.layout.specs.Rows.{Basic, Shape, absent, array, blob, boolean, end, field, lacking, level, natural, number, optional, text}
 use Rattle.layout.specs.Read.{byPlace, readBasic}
-use Rattle.layout.specs.Tables.{all, cells, from, readRows, rowWidth}
+use Rattle.layout.specs.Tables.{all, from, readRows, rowWidth}
 use Rattle.layout.specs.Answers.{Message, shape}
 use Rattle.layout.proofs.Decode.{absent-width, cells-width}
 use Rattle.layout.proofs.Parts.{unsigned-small}

@@ -8,3 +8,5 @@ pub mod Turns
 pub mod Count
 -- the whole reply
 pub mod Replies
+-- the promise determines the reply and the table
+pub mod Unique

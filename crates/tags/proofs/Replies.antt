@@ -11,7 +11,6 @@ use Rattle.layout.specs.Reading.{Refusal, because, ok}
 use Rattle.layout.specs.Rows.{at, standing, stands, tagRows}
 use Rattle.layout.specs.Tables.{all, arrays, from, kindIn, kindOf, rowWidth, width}
 use Rattle.layout.specs.Answers.{accepted, prefixRead, refused, shape, tagsAlone, widths}
-use Rattle.layout.proofs.Calls.{read-refused, too-long}
 use Rattle.layout.proofs.Local.{not-ok}
 use Rattle.layout.proofs.Proper.{avoids, eats, proper, sound, widthAt}
 use Rattle.layout.proofs.Tests.{le-false, le-true}
@@ -21,7 +20,7 @@ use Rattle.rows.specs.Store.{State, own, tab}
 use Rattle.rows.specs.Walk.{on, walk}
 use Rattle.rows.proofs.Bound.{lean, slim, taken}
 use Rattle.rows.proofs.Close.{slices}
-use Rattle.rows.proofs.Reply.{answers-fits, answers-needs, answers-no, short}
+use Rattle.rows.proofs.Reply.{answers-fits, answers-long, answers-needs, answers-no, short}
 use Rattle.tags.specs.Answers.{ofWalked}
 use Rattle.tags.specs.declared.Walked.{Walked}
 
@@ -48,7 +47,7 @@ short-none k n h = rw (tag-width, le-true (k / 3) (n / 3) h)
 
 pub reply-long : (s l : List ℕ) (c : Refusal) → c ≡ because 2 0 → 1048576 < length s → (refused c, l ∷ []) ≡ prefixRead tagsAlone (pos 0) (l ∷ []) s
 unfolding prefixRead
-reply-long s l c e h = ap (λ (d : Refusal). (refused d, l ∷ [])) e ∙ sym (read-refused tagsAlone (pos 0) s (l ∷ []) false (because 2 0) (too-long false tagsAlone 0 s (omega arith) h))
+reply-long s l c e h = answers-long tagsAlone false 0 s (l ∷ []) c e (omega arith) h
 
 -- a table with no room has nothing in it
 nil : (t : List ℕ) → length t ≡ 0 → t ≡ []

@@ -1,7 +1,7 @@
 -- A call that writes a length, a count or what stands behind a length: what it answers where there is a fault, and where there is none.
 use mathlib.Core.Bool.{Bool, cond, false, true}
-use mathlib.Core.List.{List, _++_}
-use mathlib.Core.Path.{_∙_, _≡_, ap, sym}
+use mathlib.Core.List.{List}
+use mathlib.Core.Path.{_∙_, _≡_, sym}
 use Prim.Native.Nat.{_+_, _<_, _≤_, ℕ}
 use native.Mathlib.Omega.{arith}
 use lib.Dec.{ltb}

@@ -109,3 +109,11 @@ module _ (d : List ℕ) (n : ℕ) where
         ∙ ap (λ (j : ℕ). take p out ++ left ∷ drop j out) k
         ∙ ap (λ (s : List ℕ). take p out ++ (s ++ drop (p + length (unsignedBytes left)) out)) (sym m)
         ∙ a .same)
+
+-- 2 to the 64, one more than 64 bits hold
+all-bits : unsignedBytes 18446744073709551616 ≡ 128 ∷ 128 ∷ 128 ∷ 128 ∷ 128 ∷ 128 ∷ 128 ∷ 128 ∷ 128 ∷ 2 ∷ []
+unfolding unsignedBytes shortest bytes
+all-bits = refl
+
+pub beyond : (n : ℕ) → n < 2 ^ 64 → 18446744073709551615 ≤ n → unsignedBytes (n + 1) ≡ 128 ∷ 128 ∷ 128 ∷ 128 ∷ 128 ∷ 128 ∷ 128 ∷ 128 ∷ 128 ∷ 2 ∷ []
+beyond n h l = ap unsignedBytes (let e : n + 1 ≡ 18446744073709551616 = omega arith in e) ∙ all-bits

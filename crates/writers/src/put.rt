@@ -2,9 +2,9 @@
 // It stores its bytes at the front where all of them fit, and nothing where they do not, and always tells how many they are.
 ghost use mathlib.Core.Path.{_≡_};
 ghost use lib.ListN.{length};
-ghost use Prim.Native.Nat.{_-_, _<_, _^_};
+ghost use Prim.Native.Nat.{_+_};
 ghost use Rattle.layout.specs.Primitives.{bytes, flagBytes, lengthBytes, nullBytes, unsignedBytes};
-ghost use Rattle.writers.specs.Put.{Put, behindLength, countBytes, sizeOf};
+ghost use Rattle.writers.specs.Put.{Put, behindLength, sizeOf};
 use crate::Form;
 
 // The lowest k bytes of the cell, highest first.
@@ -103,27 +103,45 @@ pub fn raw(out: &mut [u8], content: &[u8]) -> usize
     content.len()
 }
 
+// One more than n, as a compact length has it. No slice and no table reaches the last branch: one more than n is 65 bits.
+fn compact_length(out: &mut [u8], n: u64) -> usize
+    ensures { λ r. ⌜ Put (unsignedBytes (n + 1)) (now (out .entry)) r (now (out .exit)) ⌝ }
+{
+    if n < 18446744073709551615 {
+        return unsigned_varint(out, n + 1);
+    }
+    raw(out, &[128, 128, 128, 128, 128, 128, 128, 128, 128, 2])
+}
+
+// How many bytes that takes.
+fn compact_size(n: u64) -> usize
+    ensures { λ r. ⌜ r ≡ length (unsignedBytes (n + 1)) ⌝ }
+{
+    if n < 18446744073709551615 {
+        return varint_length(n + 1);
+    }
+    10
+}
+
 // How many bytes a length takes.
 pub fn length_size(form: Form, n: u64) -> usize
-    requires { ⌜ n < 2 ^ 64 - 1 ⌝ }
     ensures { λ r. ⌜ r ≡ length (lengthBytes (sizeOf form) n) ⌝ }
 {
     match form {
         Form::Int16 => 2,
         Form::Int32 => 4,
-        Form::Compact => varint_length(n + 1),
+        Form::Compact => compact_size(n),
     }
 }
 
 // The length or count of what follows.
 pub fn length(out: &mut [u8], form: Form, n: u64) -> usize
-    requires { ⌜ n < 2 ^ 64 - 1 ⌝ }
     ensures { λ r. ⌜ Put (lengthBytes (sizeOf form) n) (now (out .entry)) r (now (out .exit)) ⌝ }
 {
     match form {
         Form::Int16 => int16(out, n),
         Form::Int32 => int32(out, n),
-        Form::Compact => unsigned_varint(out, n + 1),
+        Form::Compact => compact_length(out, n),
     }
 }
 

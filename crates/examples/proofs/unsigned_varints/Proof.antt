@@ -2,13 +2,6 @@ use Prim.Native.Nat.{_-_, _≤_}
 use borrow.Author.Needs.{needs}
 use Rattle.examples.proofs.unsigned_varints.Statement.{statement}
 use Rattle.examples.proofs.unsigned_varints.Tie as tie
-use Rattle.examples.proofs.unsigned_varints.Reads as reads
-use Rattle.examples.proofs.unsigned_varints.Lts as lts
-use Rattle.examples.proofs.number.Reads as number-reads
-use Rattle.examples.proofs.say.Reads as say-reads
-use Rattle.examples.proofs.wrote.Reads as wrote-reads
-use Rattle.primitives.proofs.read.unsigned_varint.Reads as read-unsigned-varint-reads
-use Rattle.writers.proofs.write.unsigned_varint.Reads as write-unsigned-varint-reads
 
 abbrev Inv-loop : tie.InvT-loop
 Inv-loop ends i₀ t5 i = i ≤ 20

@@ -2,13 +2,6 @@ use Prim.Native.Nat.{_-_, _≤_}
 use borrow.Author.Needs.{needs}
 use Rattle.examples.proofs.varints.Statement.{statement}
 use Rattle.examples.proofs.varints.Tie as tie
-use Rattle.examples.proofs.varints.Reads as reads
-use Rattle.examples.proofs.varints.Lts as lts
-use Rattle.examples.proofs.integer.Reads as integer-reads
-use Rattle.examples.proofs.say.Reads as say-reads
-use Rattle.examples.proofs.wrote.Reads as wrote-reads
-use Rattle.primitives.proofs.read.varint.Reads as read-varint-reads
-use Rattle.writers.proofs.write.varint.Reads as write-varint-reads
 
 abbrev Inv-loop : tie.InvT-loop
 Inv-loop ends i₀ t5 i = i ≤ 14

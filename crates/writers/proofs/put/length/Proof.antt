@@ -18,11 +18,8 @@ int32-requires c κs = search needs
 enum-told-3 : tie.Need-enum-told-3
 enum-told-3 c = search needs
 
-add-unsigned-varint : tie.Need-add-unsigned-varint
-add-unsigned-varint c = search needs
-
-unsigned-varint-requires : tie.Need-unsigned-varint-requires
-unsigned-varint-requires c κs = search needs
+compact-length-requires : tie.Need-compact-length-requires
+compact-length-requires c κs = search needs
 
 same-length : tie.Need-same-length
 same-length c = search needs
@@ -43,7 +40,7 @@ same-length-3 c = search needs
 
 returns-3 : tie.Need-returns-3
 unfolding lengthBytes
-returns-3 c = rw (c .before .before .before .before .enum-told3 .given .1) (c .before .before .unsigned-varint .ensures)
+returns-3 c = rw (c .before .before .before .before .enum-told3 .given .1) (c .before .before .compact-length .ensures)
 
 pub length-spec : {M : Type 1} → statement M
 length-spec =
@@ -54,8 +51,7 @@ length-spec =
     enum-told-2
     int32-requires
     enum-told-3
-    add-unsigned-varint
-    unsigned-varint-requires
+    compact-length-requires
     same-length
     returns
     same-length-2

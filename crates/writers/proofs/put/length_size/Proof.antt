@@ -14,11 +14,8 @@ enum-told-2 c = search needs
 enum-told-3 : tie.Need-enum-told-3
 enum-told-3 c = search needs
 
-add-varint-length : tie.Need-add-varint-length
-add-varint-length c = search needs
-
-varint-length-requires : tie.Need-varint-length-requires
-varint-length-requires c κs = search needs
+compact-size-requires : tie.Need-compact-size-requires
+compact-size-requires c κs = search needs
 
 returns : tie.Need-returns
 unfolding lengthBytes
@@ -30,7 +27,7 @@ returns-2 c = rw (c .enum-told2 .given .1) (sym (length-bytes 4 _))
 
 returns-3 : tie.Need-returns-3
 unfolding lengthBytes
-returns-3 c = rw (c .before .enum-told3 .given .1) (c .varint-length .ensures)
+returns-3 c = rw (c .before .enum-told3 .given .1) (c .compact-size .ensures)
 
 pub length-size-spec : {M : Type 1} → statement M
 length-size-spec =
@@ -39,8 +36,7 @@ length-size-spec =
     enum-told
     enum-told-2
     enum-told-3
-    add-varint-length
-    varint-length-requires
+    compact-size-requires
     returns
     returns-2
     returns-3)
