@@ -19,3 +19,5 @@ pub mod Moves
 pub mod Flat
 -- a row's end and its arrays
 pub mod Arrays
+-- the same for walks, whose counts stop above the limit
+pub mod Capped

@@ -1,22 +1,21 @@
 -- Bytes copied, and what stands behind its length.
+use mathlib.Core.Bool.{false}
 use mathlib.Core.List.{List, _++_}
 use mathlib.Core.Path.{_∙_, _≡_, ap, ap₂, refl, subst, sym}
 use Prim.Native.Nat.{_+_, _-_, _<_, _≤_, ℕ}
-use native.Mathlib.Decide.{decLt}
 use native.Mathlib.Nat.{zero-add}
 use native.Mathlib.Numerals.{add-one}
 use native.Mathlib.Omega.{arith}
 use borrow.Rule.Slice.PartMut.{midOf, putMid}
-use lib.ListN.{drop, getD, length, length-append, length-drop, length-set, set}
+use lib.ListN.{drop, getD, length, length-append, length-set, set}
 use lib.Seq.{paste, paste-suc, paste-zero, take-all}
-use Rattle.layout.specs.Primitives.{Size, compact, fixed, lengthBytes, plain, w16, w32, w64, w8}
+use Rattle.layout.specs.Primitives.{Size, compact, fixed, lengthBytes, plain, sizedBytes, w16, w32, w64, w8}
 use Rattle.layout.proofs.Back.{length-bytes}
-use Rattle.layout.proofs.Tests.{le-false, le-true}
 use Rattle.rows.specs.Step.{Step}
 use Rattle.rows.proofs.Step.{step-lent}
 use Rattle.writers.specs.Put.{Put, behindLength}
 use Rattle.writers.proofs.Shortest.{unsigned-length}
-use Rattle.writers.proofs.Stored.{put-all, put-none}
+use Rattle.writers.proofs.Stored.{put-all, put-none, put-step, step-put}
 
 -- the first p bytes of s are copied to the front of d
 pub record Copied (d s out : List ℕ) (p : ℕ) : Type 0 where
@@ -46,23 +45,6 @@ module _ (d s : List ℕ) where
         let e : 0 + p ≡ length s = omega (arith, a .below) in
         put-all s d (length s) refl out (a .room) (a .same ∙ ap₂ (λ (x : List ℕ) (j : ℕ). x ++ drop j d) (take-all p s h) e)
 
--- ---- all or nothing is a step
-
-pub put-step : {bs d d′ : List ℕ} {r : ℕ} → Put bs d r d′ → Step bs d r d′
-put-step {bs} {d} {d′} {r} p =
-    elim (decLt (length d) (length bs)) [
-      | yes l ↦
-          let e : d′ ≡ d = p .left ∙ rw (le-false (length bs) (length d) l) in
-          record { count = p .count; long = ap length e; stored = λ h. absurd (omega arith) }
-      | no l ↦
-          let e : d′ ≡ bs ++ drop (length bs) d = p .left ∙ rw (le-true (length bs) (length d) (omega arith)) in
-          record { count = p .count; long = ap length e ∙ length-append bs (drop (length bs) d) ∙ omega (arith, length-drop (length bs) d); stored = λ h. e }
-    ]
-
--- where there is room a step has stored all
-pub step-put : {bs d d′ : List ℕ} {r : ℕ} → length bs ≤ length d → Step bs d r d′ → Put bs d r d′
-step-put {bs} {d} {d′} {r} h s = put-all bs d r (s .count) d′ (omega (arith, s .count)) (s .stored h)
-
 -- a length takes ten bytes at most
 pub length-small : (z : Size) (n : ℕ) → length (lengthBytes z n) ≤ 10
 unfolding lengthBytes
@@ -85,3 +67,8 @@ module _ (z : Size) (x d : List ℕ) where
   pub sized-none : {h : ℕ} → h ≡ length (lengthBytes z (length x)) → length d < h + length x → Put (behindLength z x) d (h + length x) d
   unfolding behindLength
   sized-none {h} i r = put-none _ d (h + length x) (omega (arith, length-append (lengthBytes z (length x)) x)) r
+
+-- as layouts have it: a text or data that is never null
+pub behind-sized : (z : Size) (x : List ℕ) → behindLength z x ≡ sizedBytes false z (λ y. y) x
+unfolding behindLength sizedBytes
+behind-sized z x = refl

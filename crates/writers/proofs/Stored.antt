@@ -3,13 +3,15 @@ use mathlib.Core.Bool.{Bool, false, true}
 use mathlib.Core.List.{List, _++_, _∷_}
 use mathlib.Core.Path.{_∙_, _≡_, ap, refl, subst, sym}
 use Prim.Native.Nat.{_%_, _-_, _/_, _<_, _≤_, suc, zero, ℕ}
+use native.Mathlib.Decide.{decLt}
 use native.Mathlib.Omega.{arith}
-use lib.ListN.{drop, length, length-set, set, take}
+use lib.ListN.{drop, length, length-append, length-drop, length-set, set, take}
 use lib.Seq.{append-snoc, drop-at, length-take-le, set-split}
 use mir.Val.{boolByte}
 use Rattle.layout.specs.Primitives.{bytes, flagBytes}
 use Rattle.layout.proofs.Back.{length-bytes}
 use Rattle.layout.proofs.Tests.{le-false, le-true}
+use Rattle.rows.specs.Step.{Step}
 use Rattle.writers.specs.Put.{Put}
 
 module _ (bs d : List ℕ) (r : ℕ) (e : r ≡ length bs) where
@@ -20,6 +22,22 @@ module _ (bs d : List ℕ) (r : ℕ) (e : r ≡ length bs) where
   -- there is, and the bytes stand at the front
   pub put-all : (d′ : List ℕ) → r ≤ length d → d′ ≡ bs ++ drop (length bs) d → Put bs d r d′
   put-all d′ h i = record { count = e; left = i ∙ sym (rw (le-true (length bs) (length d) (omega arith))) }
+
+-- all or nothing is a step
+pub put-step : {bs d d′ : List ℕ} {r : ℕ} → Put bs d r d′ → Step bs d r d′
+put-step {bs} {d} {d′} {r} p =
+    elim (decLt (length d) (length bs)) [
+      | yes l ↦
+          let e : d′ ≡ d = p .left ∙ rw (le-false (length bs) (length d) l) in
+          record { count = p .count; long = ap length e; stored = λ h. absurd (omega arith) }
+      | no l ↦
+          let e : d′ ≡ bs ++ drop (length bs) d = p .left ∙ rw (le-true (length bs) (length d) (omega arith)) in
+          record { count = p .count; long = ap length e ∙ length-append bs (drop (length bs) d) ∙ omega (arith, length-drop (length bs) d); stored = λ h. e }
+    ]
+
+-- where there is room a step has stored all
+pub step-put : {bs d d′ : List ℕ} {r : ℕ} → length bs ≤ length d → Step bs d r d′ → Put bs d r d′
+step-put {bs} {d} {d′} {r} h s = put-all bs d r (s .count) d′ (omega (arith, s .count)) (s .stored h)
 
 -- a Boolean's byte is the number that it is cast to
 pub put-flag : (b : Bool) (d : List ℕ) (r : ℕ) (d′ : List ℕ) → Put (bytes 1 (boolByte b)) d r d′ → Put (flagBytes b) d r d′

@@ -2,10 +2,35 @@
 // It stores its bytes at the front where all of them fit, and nothing where they do not, and always tells how many they are.
 ghost use mathlib.Core.Path.{_≡_};
 ghost use lib.ListN.{length};
-ghost use Prim.Native.Nat.{_+_};
+ghost use Prim.Native.Nat.{_+_, min};
 ghost use Rattle.layout.specs.Primitives.{bytes, flagBytes, lengthBytes, nullBytes, unsignedBytes};
+ghost use Rattle.rows.specs.Step.{cap};
 ghost use Rattle.writers.specs.Put.{Put, behindLength, sizeOf};
 use crate::Form;
+use primitives::MOST;
+
+// Two counts together. Over the limit counts are not told apart, so that no sum is too big for a number.
+pub fn add(n: usize, m: usize) -> usize
+    ensures { λ r. ⌜ cap r ≡ cap (n + m) ⌝ }
+{
+    if MOST < n {
+        return n;
+    }
+    if MOST < m {
+        return m;
+    }
+    n + m
+}
+
+// Where the rest behind n bytes begins: at the end, where there are not so many.
+pub fn behind(n: usize, room: usize) -> usize
+    ensures { λ r. ⌜ r ≡ min n room ⌝ }
+{
+    if n <= room {
+        return n;
+    }
+    room
+}
 
 // The lowest k bytes of the cell, highest first.
 pub fn lowest(out: &mut [u8], cell: u64, k: usize) -> usize

@@ -160,7 +160,7 @@ fn count(out: &mut [u8], form: Form, null: bool, n: u64) -> Written
 
 // A text or data that the form can carry, behind its length. Its size is known before anything is stored.
 fn carried(out: &mut [u8], form: Form, value: &[u8]) -> Written
-    ensures { λ r. ⌜ replied r (now (out .exit)) ≡ writeAlone (0) (behindLength (sizeOf form) (now (value .entry))) (now (out .entry)) ⌝ }
+    ensures { λ r. ⌜ replied r (now (out .exit)) ≡ writeAlone 0 (behindLength (sizeOf form) (now (value .entry))) (now (out .entry)) ⌝ }
 {
     let all = put::length_size(form, value.len() as u64) + value.len();
     if MOST < all {
@@ -192,60 +192,70 @@ fn nullable(out: &mut [u8], form: Form, null: bool, value: &[u8], good: bool) ->
     sized(out, form, value, good)
 }
 
+// STRING: the length as an Int16, and the text.
 pub fn string(out: &mut [u8], value: &[u8]) -> Written
     ensures { λ r. ⌜ replied r (now (out .exit)) ≡ writeAlone (basicFault (text (fixed w16 never)) (now (value .entry))) (writeBasic (text (fixed w16 never)) (now (value .entry))) (now (out .entry)) ⌝ }
 {
     sized(out, Form::Int16, value, utf8::is_text(value))
 }
 
+// NULLABLE_STRING: the same, and -1 for null, where the value is not looked at.
 pub fn nullable_string(out: &mut [u8], null: bool, value: &[u8]) -> Written
     ensures { λ r. ⌜ replied r (now (out .exit)) ≡ writeAlone (basicFault (text (fixed w16 kept)) (nullOr null (now (value .entry)))) (writeBasic (text (fixed w16 kept)) (nullOr null (now (value .entry)))) (now (out .entry)) ⌝ }
 {
     nullable(out, Form::Int16, null, value, utf8::is_text(value))
 }
 
+// COMPACT_STRING: one more than the length as an unsigned varint, and the text.
 pub fn compact_string(out: &mut [u8], value: &[u8]) -> Written
     ensures { λ r. ⌜ replied r (now (out .exit)) ≡ writeAlone (basicFault (text (compact never)) (now (value .entry))) (writeBasic (text (compact never)) (now (value .entry))) (now (out .entry)) ⌝ }
 {
     sized(out, Form::Compact, value, utf8::is_text(value))
 }
 
+// COMPACT_NULLABLE_STRING: the same, and 0 for null.
 pub fn compact_nullable_string(out: &mut [u8], null: bool, value: &[u8]) -> Written
     ensures { λ r. ⌜ replied r (now (out .exit)) ≡ writeAlone (basicFault (text (compact kept)) (nullOr null (now (value .entry)))) (writeBasic (text (compact kept)) (nullOr null (now (value .entry)))) (now (out .entry)) ⌝ }
 {
     nullable(out, Form::Compact, null, value, utf8::is_text(value))
 }
 
+// BYTES: the length as an Int32, and the data.
 pub fn bytes(out: &mut [u8], value: &[u8]) -> Written
     ensures { λ r. ⌜ replied r (now (out .exit)) ≡ writeAlone (basicFault (blob (fixed w32 never)) (now (value .entry))) (writeBasic (blob (fixed w32 never)) (now (value .entry))) (now (out .entry)) ⌝ }
 {
     sized(out, Form::Int32, value, true)
 }
 
+// NULLABLE_BYTES: the same, and -1 for null.
 pub fn nullable_bytes(out: &mut [u8], null: bool, value: &[u8]) -> Written
     ensures { λ r. ⌜ replied r (now (out .exit)) ≡ writeAlone (basicFault (blob (fixed w32 kept)) (nullOr null (now (value .entry)))) (writeBasic (blob (fixed w32 kept)) (nullOr null (now (value .entry)))) (now (out .entry)) ⌝ }
 {
     nullable(out, Form::Int32, null, value, true)
 }
 
+// COMPACT_BYTES: one more than the length as an unsigned varint, and the data.
 pub fn compact_bytes(out: &mut [u8], value: &[u8]) -> Written
     ensures { λ r. ⌜ replied r (now (out .exit)) ≡ writeAlone (basicFault (blob (compact never)) (now (value .entry))) (writeBasic (blob (compact never)) (now (value .entry))) (now (out .entry)) ⌝ }
 {
     sized(out, Form::Compact, value, true)
 }
 
+// RECORDS: as BYTES. A null reads as empty records, and none is written.
 pub fn records(out: &mut [u8], value: &[u8]) -> Written
     ensures { λ r. ⌜ replied r (now (out .exit)) ≡ writeAlone (basicFault (blob (fixed w32 empty)) (now (value .entry))) (writeBasic (blob (fixed w32 empty)) (now (value .entry))) (now (out .entry)) ⌝ }
 {
     sized(out, Form::Int32, value, true)
 }
 
+// The count of an ARRAY: an Int32, and -1 for null.
 pub fn array_count(out: &mut [u8], null: bool, n: u64) -> Written
     ensures { λ r. ⌜ replied r (now (out .exit)) ≡ writeAlone (countFault (fixed w32 kept) null n) (countBytes (fixed w32 kept) null n) (now (out .entry)) ⌝ }
 {
     count(out, Form::Int32, null, n)
 }
 
+// The count of a COMPACT_ARRAY: one more than it as an unsigned varint, and 0 for null.
 pub fn compact_array_count(out: &mut [u8], null: bool, n: u64) -> Written
     ensures { λ r. ⌜ replied r (now (out .exit)) ≡ writeAlone (countFault (compact kept) null n) (countBytes (compact kept) null n) (now (out .entry)) ⌝ }
 {

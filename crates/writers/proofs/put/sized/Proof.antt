@@ -31,7 +31,7 @@ same-length : tie.Need-same-length
 same-length c = search needs
 
 returns : tie.Need-returns
-returns c = sized-all _ _ _ (c .before .before .before .before .before .before .before .before .before .length-size .ensures) (c .before .before .before .before .before .before .before .before .if1 .taken) (c .before .before .before .before .before .before .length .ensures) (c .before .before .raw .ensures)
+returns c = sized-all _ _ _ (c .before .before .before .before .before .before .before .before .before .length-size .ensures) (omega (arith, c .before .before .before .before .before .before .before .before .if1 .taken)) (c .before .before .before .before .before .before .length .ensures) (c .before .before .raw .ensures)
 
 returns-2 : tie.Need-returns-2
 returns-2 c = sized-none _ _ _ (c .before .length-size .ensures) (c .if1 .left)

@@ -20,7 +20,9 @@ same-length c = search needs
 
 returns : tie.Need-returns
 unfolding basicFault writeBasic lengthFault behindLength lengthBytes nullBytes
-returns c = nullable-written (compact kept) (c .before .before .before .before .before .before .before .args .value .now) (c .before .before .before .before .before .before .before .args .out .now) (λ y. unless (utf8 y) 7) (ap (λ (b : Bool). unless b 7) (c .before .before .before .is-text .ensures)) _ (c .before .before .before .before .before .before .before .args .null) (c .before .before .nullable .ensures)
+returns c =
+    let a = c .before .before .before .before .before .before .before .args in
+    nullable-written (compact kept) (a .value .now) (a .out .now) (λ y. unless (utf8 y) 7) (ap (λ (b : Bool). unless b 7) (c .before .before .before .is-text .ensures)) _ (a .null) (c .before .before .nullable .ensures)
 
 pub compact-nullable-string-spec : {M : Type 1} → statement M
 compact-nullable-string-spec =

@@ -15,7 +15,9 @@ same-length c = search needs
 
 returns : tie.Need-returns
 unfolding basicFault writeBasic unless lengthFault behindLength lengthBytes nullBytes
-returns c = nullable-written (fixed w32 kept) (c .before .before .before .before .before .before .args .value .now) (c .before .before .before .before .before .before .args .out .now) (λ y. 0) refl _ (c .before .before .before .before .before .before .args .null) (c .before .before .nullable .ensures)
+returns c =
+    let a = c .before .before .before .before .before .before .args in
+    nullable-written (fixed w32 kept) (a .value .now) (a .out .now) (λ y. 0) refl _ (a .null) (c .before .before .nullable .ensures)
 
 pub nullable-bytes-spec : {M : Type 1} → statement M
 nullable-bytes-spec = tie.close (tie.spec nullable-requires same-length returns)
