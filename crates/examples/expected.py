@@ -77,6 +77,33 @@ print("null, used 1")
 refused(6)
 print("0 from 4, used 4")
 
+
+# tagged fields, and a table that began as seven sevens: no tag; two tags; data cut short; a third row has no room;
+# the second tag is missing; no byte
+def table(*cells):
+    print("".join(f" {c}" for c in list(cells) + [7] * (7 - len(cells))))
+
+
+told(0, 1)
+table()
+told(2, 7)
+table(5, 3, 0, 4, 5, 2)
+refused(3, 2)
+table()
+refused(10, 0, 3)
+table()
+refused(3, 3)
+table()
+refused(3)
+table()
+
+# written: two tags; unset tags are none; two rows and a count of one; a range outside the two lent bytes; eight bytes into seven
+shown([2, 5, 0, 4, 2, 0xAA, 0xBB])
+shown([0])
+refused(13)
+refused(13)
+refused(10, 0, 8)
+
 # nothing is left for any of the eighteen
 for _ in range(18):
     refused(3)

@@ -9,6 +9,7 @@ use primitives::Flag;
 use primitives::Integer;
 use primitives::Number;
 use primitives::Refusal;
+use tags::Tagged;
 use writers::Written;
 
 fn say(s: &[u8]) {
@@ -299,6 +300,61 @@ fn lengths() {
     part(fields::read::records(&[0xFF, 0xFF, 0xFF, 0xFF]));
 }
 
+fn tagged(r: Tagged) {
+    match r {
+        Tagged::Took { count: k, used: n } => {
+            decimal(k);
+            used(n);
+        }
+        Tagged::Refused(e) => {
+            refused(e);
+            say(b"\n");
+        }
+    }
+}
+
+fn cells(table: &[u64]) {
+    let mut i: usize = 0;
+    while i < table.len() {
+        say(b" ");
+        decimal(table[i]);
+        i = i + 1;
+    }
+    say(b"\n");
+}
+
+// The table begins as seven sevens: two rows, and a cell that is no row.
+fn tag_rows(msg: &[u8]) {
+    let mut table = [7u64; 7];
+    tagged(tags::tagged_fields(msg, &mut table));
+    cells(&table);
+}
+
+fn tag_buffers() {
+    tag_rows(&[0]);
+    tag_rows(&[2, 5, 0, 4, 2, 0xAA, 0xBB, 0xCC]);
+    tag_rows(&[1, 5, 2, 0xAA]);
+    tag_rows(&[3, 1, 0, 2, 0, 3, 0]);
+    tag_rows(&[2, 1, 0]);
+    tag_rows(&[]);
+}
+
+// Two bytes are lent, and there is room for seven.
+fn tags_put(count: u64, table: &[u64]) {
+    let mut out = [0u8; 7];
+    let r = tags_written::tagged_fields(&mut out, &[0xAA, 0xBB], count, table);
+    wrote(&out, r);
+    say(b"\n");
+}
+
+fn written_tags() {
+    tags_put(2, &[5, 0, 0, 4, 0, 2]);
+    tags_put(18446744073709551615, &[]);
+    tags_put(1, &[5, 0, 0, 4, 0, 2]);
+    tags_put(1, &[5, 1, 2]);
+    tags_put(2, &[5, 0, 1, 4, 0, 2]);
+}
+
 fn no_numbers(msg: &[u8]) {
     integer(primitives::read::int8(msg));
     integer(primitives::read::int16(msg));
@@ -331,6 +387,8 @@ fn main() {
     written_texts();
     long_texts();
     lengths();
+    tag_buffers();
+    written_tags();
     no_numbers(&[]);
     no_fields(&[]);
 }

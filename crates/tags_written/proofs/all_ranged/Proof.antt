@@ -1,0 +1,79 @@
+use borrow.Author.Needs.{needs}
+use borrow.Author.Tests.{not-false, not-true}
+use Prim.Native.Nat.{_-_}
+use Rattle.tags_written.proofs.Walk.{Judged, judged-start, judged-more, judged-stop, judged-end}
+use Rattle.tags_written.proofs.all_ranged.Statement.{statement}
+use Rattle.tags_written.proofs.all_ranged.Tie as tie
+
+abbrev Inv-loop : tie.InvT-loop
+Inv-loop size table n i₀ i = Judged size table i
+
+abbrev μ-loop : tie.MeasureT-loop
+μ-loop size table n i₀ i = n - i
+
+loop-holds : tie.Need-loop-holds Inv-loop μ-loop
+loop-holds c = judged-start _ _
+
+mul-is-inside : tie.Need-mul-is-inside Inv-loop μ-loop
+mul-is-inside c = search needs
+
+add-is-inside : tie.Need-add-is-inside Inv-loop μ-loop
+add-is-inside c = search needs
+
+mul-is-inside-2 : tie.Need-mul-is-inside-2 Inv-loop μ-loop
+mul-is-inside-2 c = search needs
+
+shared-slice-read-is-inside : tie.Need-shared-slice-read-is-inside Inv-loop μ-loop
+shared-slice-read-is-inside c = search needs
+
+mul-is-inside-3 : tie.Need-mul-is-inside-3 Inv-loop μ-loop
+mul-is-inside-3 c = search needs
+
+add-is-inside-2 : tie.Need-add-is-inside-2 Inv-loop μ-loop
+add-is-inside-2 c = search needs
+
+mul-is-inside-4 : tie.Need-mul-is-inside-4 Inv-loop μ-loop
+mul-is-inside-4 c = search needs
+
+shared-slice-read-is-inside-2 : tie.Need-shared-slice-read-is-inside-2 Inv-loop μ-loop
+shared-slice-read-is-inside-2 c = search needs
+
+is-inside-requires : tie.Need-is-inside-requires Inv-loop μ-loop
+is-inside-requires c κs = search needs
+
+returns : tie.Need-returns Inv-loop μ-loop
+returns c = judged-stop _ _ _ (c .before .before .before .before .before .loop .inv) (c .before .before .before .before .loop-test .taken) _ (c .before .is-inside .ensures) (not-true _ (c .if1 .taken))
+
+add-i : tie.Need-add-i Inv-loop μ-loop
+add-i c = search needs
+
+loop-less : tie.Need-loop-less Inv-loop μ-loop
+loop-less c = search needs
+
+loop-again : tie.Need-loop-again Inv-loop μ-loop
+loop-again c = judged-more _ _ _ (c .before .before .before .before .before .loop .inv) (c .before .before .before .before .loop-test .taken) _ (c .before .is-inside .ensures) (not-false _ (c .if1 .left))
+
+returns-2 : tie.Need-returns-2 Inv-loop μ-loop
+returns-2 c = search (needs, judged-end)
+
+pub all-ranged-spec : {M : Type 1} → statement M
+all-ranged-spec =
+    tie.close
+    (tie.spec
+    Inv-loop
+    μ-loop
+    loop-holds
+    mul-is-inside
+    add-is-inside
+    mul-is-inside-2
+    shared-slice-read-is-inside
+    mul-is-inside-3
+    add-is-inside-2
+    mul-is-inside-4
+    shared-slice-read-is-inside-2
+    is-inside-requires
+    returns
+    add-i
+    loop-less
+    loop-again
+    returns-2)

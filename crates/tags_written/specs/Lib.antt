@@ -1,0 +1,2 @@
+-- the bytes of tagged fields, row by row
+pub mod Tags
