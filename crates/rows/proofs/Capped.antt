@@ -4,7 +4,7 @@ use mathlib.Core.Path.{_∙_, _≡_, ap, subst, sym}
 use Prim.Native.Nat.{_+_, _-_, _<_, _≤_, min, ℕ}
 use native.Mathlib.Omega.{arith}
 use borrow.Rule.Slice.PartMut.{midOf, putMid, same-len-mid}
-use lib.ListN.{drop, getD, length, length-append, take}
+use lib.ListN.{getD, length, length-append, take}
 use lib.Seq.{take-all}
 use Rattle.layout.specs.Answers.{most}
 use Rattle.layout.specs.Write.{each}

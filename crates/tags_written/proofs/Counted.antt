@@ -2,8 +2,7 @@
 use mathlib.Core.Bool.{true}
 use mathlib.Core.List.{List, [], _++_}
 use mathlib.Core.Path.{_∙_, _≡_, ap, sym}
-use Prim.Native.Nat.{_*_, _+_, _/_, _<_, _≤_, suc, ℕ}
-use native.Mathlib.Decide.{decLt}
+use Prim.Native.Nat.{_*_, _+_, _/_, _<_, _≤_, ℕ}
 use native.Mathlib.Nat.{add-zero}
 use native.Mathlib.Omega.{arith}
 use lib.Dec.{lit<}
@@ -11,11 +10,11 @@ use lib.ListN.{drop, getD, length, length-append, length-drop, length-take, take
 use Rattle.layout.specs.Primitives.{lengthBytes, plain, unsignedBytes}
 use Rattle.layout.specs.Tables.{rowsOf, slice}
 use Rattle.layout.specs.Write.{each}
-use Rattle.layout.proofs.Tests.{le-false, le-true}
+use Rattle.rows.specs.Step.{cap}
 use Rattle.rows.proofs.Step.{each-next}
 use Rattle.writers.specs.Put.{behindLength}
 use Rattle.writers.proofs.Shortest.{unsigned-length}
-use Rattle.tags_written.specs.Tags.{allRanged, capped, rowBytes, rowsBytes, tagBytes, tagsBytes}
+use Rattle.tags_written.specs.Tags.{allRanged, rowBytes, rowsBytes, tagBytes, tagsBytes}
 use Rattle.tags_written.proofs.Alone.{rows-many}
 use Rattle.tags_written.proofs.Walk.{cell, each-all-taken, each-part, in-range, part-small}
 
@@ -66,32 +65,24 @@ module _ (lent table : List ℕ) where
       pub counted-more : all + more ≤ 1048576 → Counted lent table (i + 1) (all + more)
       counted-more l = record { below = omega arith; small = l; same = next }
 
-      pub counted-over : 1048576 < all + more → 1048577 ≡ capped (length (tagsBytes lent table))
-      unfolding capped tagsBytes rowsBytes
-      counted-over l =
-          sym (rw (le-false (length (unsignedBytes (length table / 3) ++ each (rowBytes lent) (rowsOf 3 table))) 1048576
-          (omega (arith, next, length-append (unsignedBytes (length table / 3)) (each (rowBytes lent) (rowsOf 3 table)), each-part (rowBytes lent) (rowsOf 3 table) (i + 1)))))
+      pub counted-over : 1048576 < all + more → 1048577 ≡ cap (length (tagsBytes lent table))
+      unfolding tagsBytes rowsBytes
+      counted-over l = omega (arith, next, length-append (unsignedBytes (length table / 3)) (each (rowBytes lent) (rowsOf 3 table)), each-part (rowBytes lent) (rowsOf 3 table) (i + 1))
 
-    pub counted-end : length table / 3 ≤ i → all ≡ capped (length (tagsBytes lent table))
-    unfolding capped tagsBytes rowsBytes
+    pub counted-end : length table / 3 ≤ i → all ≡ cap (length (tagsBytes lent table))
+    unfolding tagsBytes rowsBytes
     counted-end h =
-        let e : all ≡ length (unsignedBytes (length table / 3) ++ each (rowBytes lent) (rowsOf 3 table)) =
-        omega (arith, a .same, length-append (unsignedBytes (length table / 3)) (each (rowBytes lent) (rowsOf 3 table)), ap length (each-all-taken (rowBytes lent) (rowsOf 3 table) i (omega (arith, rows-many table)))) in
-        e ∙ sym (rw (le-true (length (unsignedBytes (length table / 3) ++ each (rowBytes lent) (rowsOf 3 table))) 1048576 (omega (arith, e, a .small))))
+        omega (
+          arith,
+          a .same,
+          a .small,
+          length-append (unsignedBytes (length table / 3)) (each (rowBytes lent) (rowsOf 3 table)),
+          ap length (each-all-taken (rowBytes lent) (rowsOf 3 table) i (omega (arith, rows-many table))),
+        )
 
 -- below the limit it is the size itself
-pub capped-low : {n m : ℕ} → n ≡ capped m → n ≤ 1048576 → n ≡ m
-unfolding capped
-capped-low {n} {m} e h =
-    elim (decLt 1048576 m) [
-      | yes l ↦ let f : n ≡ suc 1048576 = e ∙ rw (le-false m 1048576 l) in absurd (omega arith)
-      | no l ↦ e ∙ rw (le-true m 1048576 (omega arith))
-    ]
+pub capped-low : {n m : ℕ} → n ≡ cap m → n ≤ 1048576 → n ≡ m
+capped-low {n} {m} e h = omega (arith, e)
 
-pub capped-high : {n m : ℕ} → n ≡ capped m → 1048576 < n → 1048576 < m
-unfolding capped
-capped-high {n} {m} e h =
-    elim (decLt 1048576 m) [
-      | yes l ↦ l
-      | no l ↦ let f : n ≡ m = e ∙ rw (le-true m 1048576 (omega arith)) in omega arith
-    ]
+pub capped-high : {n m : ℕ} → n ≡ cap m → 1048576 < n → 1048576 < m
+capped-high {n} {m} e h = omega (arith, e)

@@ -11,7 +11,8 @@ use Rattle.layout.specs.Reading.{Refusal, because}
 use Rattle.layout.proofs.Tests.{le-false, le-true}
 use Rattle.rows.specs.Step.{Step}
 use Rattle.writers.specs.Put.{noRoom}
-use Rattle.tags_written.specs.Tags.{capped, tagsBytes, tagsGood}
+use Rattle.rows.specs.Step.{cap}
+use Rattle.tags_written.specs.Tags.{tagsBytes, tagsGood}
 use Rattle.tags_written.proofs.Alone.{tags-alone}
 use Rattle.tags_written.proofs.Counted.{capped-high, capped-low}
 
@@ -19,7 +20,7 @@ module _ (lent table : List ℕ) (c : ℕ) (out : List ℕ) (f : (i : ℕ) → g
   pub told-bad : (e : Refusal) → e ≡ because 13 0 → tagsGood (length lent) c table ≡ false → _≡_ {A = Answer × List ℕ} (refused e, out) (writeAnswer tagsAlone (pos 0) lent ((c ∷ []) ∷ table ∷ []) out)
   told-bad e i g = (λ t. (refused (i t), out)) ∙ sym (tags-alone lent table c out f t l ∙ rw g)
 
-  module _ (g : tagsGood (length lent) c table ≡ true) {n : ℕ} (s : n ≡ capped (length (tagsBytes lent table))) where
+  module _ (g : tagsGood (length lent) c table ≡ true) {n : ℕ} (s : n ≡ cap (length (tagsBytes lent table))) where
     pub told-long : (e : Refusal) → e ≡ because 2 0 → 1048576 < n → _≡_ {A = Answer × List ℕ} (refused e, out) (writeAnswer tagsAlone (pos 0) lent ((c ∷ []) ∷ table ∷ []) out)
     told-long e i h = (λ t. (refused (i t), out)) ∙ sym (tags-alone lent table c out f t l ∙ rw (g, le-false (length (tagsBytes lent table)) 1048576 (capped-high s h)))
 

@@ -1,10 +1,9 @@
 -- Tagged fields row by row, as a walk over their table writes them: what a row's bytes are, and when rows and their count are good.
-use mathlib.Core.Bool.{Bool, _&&_, cond, true}
+use mathlib.Core.Bool.{Bool, _&&_, true}
 use mathlib.Core.List.{List, _++_}
-use Prim.Native.Nat.{_/_, ℕ, suc}
-use lib.Dec.{eqb, leb}
+use Prim.Native.Nat.{_/_, ℕ}
+use lib.Dec.{eqb}
 use lib.ListN.{getD, length}
-use Rattle.layout.specs.Answers.{most}
 use Rattle.layout.specs.Primitives.{plain, unsignedBytes}
 use Rattle.layout.specs.Tables.{all, count, goodCount, inside, rowsOf, slice}
 use Rattle.layout.specs.Write.{each}
@@ -33,7 +32,3 @@ allRanged size table = all (ranged size) (rowsOf 3 table)
 -- 13 is not given: c is the count
 unfoldable pub tagsGood : ℕ → ℕ → List ℕ → Bool
 tagsGood size c table = goodCount true c && (allRanged size table && eqb (count c) (length table / 3))
-
--- n, or one above the limit where it is over it
-unfoldable pub capped : ℕ → ℕ
-capped n = cond (leb n most) n (suc most)

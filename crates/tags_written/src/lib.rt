@@ -8,9 +8,9 @@ ghost use Prim.Native.Nat.{_+_, _/_, _<_, _≤_};
 ghost use Rattle.layout.specs.Answers.{tagsAlone, writeAnswer};
 ghost use Rattle.layout.specs.Primitives.{plain};
 ghost use Rattle.layout.specs.Tables.{count, inside, rowsOf};
-ghost use Rattle.rows.specs.Step.{Step};
+ghost use Rattle.rows.specs.Step.{Step, cap};
 ghost use Rattle.writers.specs.Put.{behindLength, replied};
-ghost use Rattle.tags_written.specs.Tags.{allRanged, capped, rowBytes, rowsBytes, tagBytes, tagsBytes, tagsGood};
+ghost use Rattle.tags_written.specs.Tags.{allRanged, rowBytes, rowsBytes, tagBytes, tagsBytes, tagsGood};
 use primitives::MOST;
 use primitives::TOO_LONG;
 use primitives::at;
@@ -149,7 +149,7 @@ fn row_size(lent: &[u8], table: &[u64], i: usize) -> usize
 // Above the limit it stops counting: rows may share lent bytes, and their sum has no bound.
 fn size(lent: &[u8], table: &[u64]) -> usize
     requires { ⌜ allRanged (length (now lent)) (now table) ≡ true ⌝ }
-    ensures { λ r. ⌜ r ≡ capped (length (tagsBytes (now (lent .entry)) (now (table .entry)))) ⌝ }
+    ensures { λ r. ⌜ r ≡ cap (length (tagsBytes (now (lent .entry)) (now (table .entry)))) ⌝ }
 {
     let n = table.len() / 3;
     let mut all = put::varint_length(n as u64);
