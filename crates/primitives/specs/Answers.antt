@@ -13,6 +13,10 @@ use Rattle.primitives.specs.declared.Refusal.{Refusal}
 abbrev pub ofRefusal : Refusal → Reading.Refusal
 ofRefusal e = record { number = e .number; place = e .place; need = e .need }
 
+-- for want of room: n rows or bytes are needed
+abbrev pub noRoom : ℕ → Reading.Refusal
+noRoom n = record { number = 10; place = 0; need = n }
+
 abbrev pub ofNumber : Number → Res ℕ
 ofNumber (Number.Took v n) = ok v n
 ofNumber (Number.Refused e) = bad (ofRefusal e)

@@ -2,12 +2,14 @@
 // `numbers` reads at the front of what is left of a message; `read` has the calls, which judge the message's size first.
 ghost use mathlib.Core.Path.{_≡_};
 ghost use Rattle.layout.specs.Reading.{because};
-ghost use Rattle.primitives.specs.Answers.{ofRefusal};
+ghost use Rattle.primitives.specs.Answers.{noRoom, ofRefusal};
 
 pub mod numbers;
 pub mod read;
 
 // The numbers of docs/RULES.md, section 10.
+pub const NO_VERSION: u8 = 1;
+
 pub const TOO_LONG: u8 = 2;
 
 pub const BYTES_END: u8 = 3;
@@ -20,9 +22,16 @@ pub const LENGTH_ZERO: u8 = 6;
 
 pub const NOT_TEXT: u8 = 7;
 
+pub const NULL_ITEMS: u8 = 8;
+
+pub const BYTES_LEFT: u8 = 9;
+
 pub const NO_ROOM: u8 = 10;
 
 pub const TOO_WIDE: u8 = 11;
+
+// 12 has no case: a seven-bit group always fits a byte.
+pub const BAD_TABLES: u8 = 13;
 
 // No message and no written body has more bytes.
 pub const MOST: usize = 1048576;
@@ -59,5 +68,16 @@ pub fn at(number: u8, place: usize) -> Refusal
         number,
         place,
         need: 0,
+    }
+}
+
+// A refusal for want of room, with the rows or bytes needed.
+pub fn no_room(need: usize) -> Refusal
+    ensures { λ r. ⌜ ofRefusal r ≡ noRoom need ⌝ }
+{
+    Refusal {
+        number: NO_ROOM,
+        place: 0,
+        need,
     }
 }

@@ -14,7 +14,7 @@ use Rattle.layout.specs.Answers.{accepted, prefixRead, refused, shape, tagsAlon
 use Rattle.layout.proofs.Local.{not-ok}
 use Rattle.layout.proofs.Proper.{avoids, eats, proper, sound, widthAt}
 use Rattle.layout.proofs.Tests.{le-false, le-true}
-use Rattle.primitives.specs.Answers.{ofRefusal}
+use Rattle.primitives.specs.Answers.{noRoom, ofRefusal}
 use Rattle.primitives.specs.declared.Refusal as Code
 use Rattle.rows.specs.Store.{State, own, tab}
 use Rattle.rows.specs.Walk.{on, walk}
@@ -69,10 +69,10 @@ module _ (s l : List ℕ) (size : length s ≤ 1048576) (t₀ t₁ : List ℕ) (
       ∙ answers-no tagsAlone is-proper is-slim false 0 (omega arith) s size (l ∷ []) (t₀ ∷ []) refl refl (ofRefusal c) (ap (ofWalked t₁) (sym e) ∙ first)
 
   module _ (n q k : ℕ) (e : r ≡ Walked.Took n q k) where
-    pub reply-needs : length (t₁ ++ l) / 3 < k / 3 → (refused (record { number = 10; place = 0; need = k / 3 }), (t₁ ++ l) ∷ []) ≡ prefixRead tagsAlone (pos 0) (l ∷ []) s
+    pub reply-needs : length (t₁ ++ l) / 3 < k / 3 → (c : Refusal) → c ≡ noRoom (k / 3) → (refused c, (t₁ ++ l) ∷ []) ≡ prefixRead tagsAlone (pos 0) (l ∷ []) s
     unfolding prefixRead
-    reply-needs h =
-        ap (λ (t : List ℕ). (refused (record { number = 10; place = 0; need = k / 3 }), t ∷ [])) (sym same)
+    reply-needs h c i =
+        (λ j. (refused (i j), sym same j ∷ []))
         ∙ answers-needs tagsAlone is-proper is-slim false 0 (omega arith) s size (l ∷ []) (t₀ ∷ []) refl refl (n ∷ []) (tab t₁ k ∷ []) q (ap (ofWalked t₁) (sym e) ∙ first) (may-leave q) (k / 3)
         (short-some k (length l) (subst (λ (t : List ℕ). length t / 3 < k / 3) (sym same) h))
 

@@ -17,11 +17,11 @@ use fields::Part;
 use fields::parts;
 use primitives::BYTES_END;
 use primitives::MOST;
-use primitives::NO_ROOM;
 use primitives::Number;
 use primitives::Refusal;
 use primitives::TOO_LONG;
 use primitives::at;
+use primitives::no_room;
 use primitives::numbers;
 use rows::store3;
 
@@ -184,11 +184,7 @@ pub fn tagged_fields(msg: &[u8], table: &mut [u64]) -> Tagged
     match tag_buffer(msg, &mut table[..0]) {
         Walked::Took { count, used, mark } => {
             if table.len() / 3 < mark / 3 {
-                return Tagged::Refused(Refusal {
-                    number: NO_ROOM,
-                    place: 0,
-                    need: mark / 3,
-                });
+                return Tagged::Refused(no_room(mark / 3));
             }
             tag_buffer(msg, table);
             Tagged::Took { count, used }

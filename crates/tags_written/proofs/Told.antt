@@ -10,7 +10,7 @@ use Rattle.layout.specs.Answers.{Answer, accepted, refused, tagsAlone, writeAns
 use Rattle.layout.specs.Reading.{Refusal, because}
 use Rattle.layout.proofs.Tests.{le-false, le-true}
 use Rattle.rows.specs.Step.{Step}
-use Rattle.writers.specs.Put.{noRoom}
+use Rattle.primitives.specs.Answers.{noRoom}
 use Rattle.rows.specs.Step.{cap}
 use Rattle.tags_written.specs.Tags.{tagsBytes, tagsGood}
 use Rattle.tags_written.proofs.Alone.{tags-alone}

@@ -11,15 +11,13 @@ ghost use Rattle.layout.specs.Tables.{count, inside, rowsOf};
 ghost use Rattle.rows.specs.Step.{Step, cap};
 ghost use Rattle.writers.specs.Put.{behindLength, replied};
 ghost use Rattle.tags_written.specs.Tags.{allRanged, rowBytes, rowsBytes, tagBytes, tagsBytes, tagsGood};
+use primitives::BAD_TABLES;
 use primitives::MOST;
 use primitives::TOO_LONG;
 use primitives::at;
+use primitives::no_room;
 use writers::Written;
-use writers::no_room;
 use writers::put;
-
-// The count and the rows do not fit together, or data lie outside the lent bytes.
-pub const BAD_TABLES: u8 = 13;
 
 // ---- 13
 

@@ -8,14 +8,10 @@ use mathlib.Core.Option.{Option, none, some}
 use mathlib.Core.Path.{_≡_}
 use Rattle.layout.specs.Answers.{Answer, accepted, refused}
 use Rattle.layout.specs.Primitives.{Size, compact, fixed, lengthBytes, limit, never, nullBytes, w16, w32}
-use Rattle.layout.specs.Reading.{Refusal}
 use Rattle.layout.specs.Write.{or, unless}
-use Rattle.primitives.specs.Answers.{ofRefusal}
+use Rattle.primitives.specs.Answers.{noRoom, ofRefusal}
 use Rattle.writers.specs.declared.Form.{Form}
 use Rattle.writers.specs.declared.Written.{Written}
-
-abbrev pub noRoom : ℕ → Refusal
-noRoom n = record { number = 10; place = 0; need = n }
 
 -- writers have no row to show
 abbrev pub ofWritten : Written → Answer

@@ -11,13 +11,13 @@ ghost use Rattle.layout.specs.Answers.{writeAlone};
 ghost use Rattle.writers.specs.Put.{behindLength, countBytes, countFault, lengthFault, nullOr, ofWritten, replied, sizeOf, told, within};
 use crate::Form;
 use crate::Written;
-use crate::no_room;
 use crate::put;
 use primitives::MOST;
 use primitives::NOT_TEXT;
 use primitives::TOO_LONG;
 use primitives::TOO_WIDE;
 use primitives::at;
+use primitives::no_room;
 
 // The cell of a signed number: its 64 bits.
 fn cell(value: i64) -> u64

@@ -22,11 +22,14 @@ tag-buffer-requires c κs = search needs
 enum-known-count : tie.Need-enum-known-count
 enum-known-count c = search needs
 
+no-room-requires : tie.Need-no-room-requires
+no-room-requires c κs = search needs
+
 same-length : tie.Need-same-length
 same-length c = search needs
 
 returns-2 : tie.Need-returns-2
-returns-2 c = reply-needs _ _ (search needs) _ _ _ (c .before .before .before .before .before .before .tag-buffer .ensures) (search needs) _ _ _ (c .before .before .count .given .1) (c .if2 .taken)
+returns-2 c = reply-needs _ _ (search needs) _ _ _ (c .before .before .before .before .before .before .before .tag-buffer .ensures) (search needs) _ _ _ (c .before .before .before .count .given .1) (c .before .if2 .taken) _ (c .no-room .ensures)
 
 tag-buffer-requires-2 : tie.Need-tag-buffer-requires-2
 tag-buffer-requires-2 c κs = search needs
@@ -56,6 +59,7 @@ tagged-fields-spec =
     slice-aggregate-tag-buffer
     tag-buffer-requires
     enum-known-count
+    no-room-requires
     same-length
     returns-2
     tag-buffer-requires-2
