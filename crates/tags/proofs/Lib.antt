@@ -1,5 +1,4 @@
--- a varint at a place, data behind its length, and a tag's row
-pub mod Varints
+-- data behind its length, and a tag's row
 pub mod Data
 pub mod Rows
 -- a turn of the loop

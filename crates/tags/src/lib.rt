@@ -4,17 +4,17 @@ ghost use mathlib.Core.Bool.{false};
 ghost use mathlib.Core.List.{[], _∷_};
 ghost use lib.IntN.{pos};
 ghost use Rattle.layout.specs.Reading.{loop};
-ghost use Rattle.layout.specs.Primitives.{plain, unsigned};
+ghost use Rattle.layout.specs.Primitives.{plain};
 ghost use Rattle.layout.specs.Rows.{blob};
 ghost use Rattle.layout.specs.Read.{byPlace, read, readBasic};
 ghost use Rattle.layout.specs.Answers.{prefixRead, shape, tagsAlone};
-ghost use Rattle.primitives.specs.Answers.{ofNumber};
 ghost use Rattle.fields.specs.Answers.{ofPart};
 ghost use Rattle.rows.specs.Store.{own, tab};
 ghost use Rattle.rows.specs.Walk.{Runs, on, walk};
 ghost use Rattle.tags.specs.Answers.{inTable, inTableIs, ofTag, ofTagged, ofWalked, tagShape};
 use fields::Part;
 use fields::parts;
+use places::varint_at;
 use primitives::BYTES_END;
 use primitives::MOST;
 use primitives::Number;
@@ -22,7 +22,6 @@ use primitives::Refusal;
 use primitives::TOO_LONG;
 use primitives::at;
 use primitives::no_room;
-use primitives::numbers;
 use rows::store3;
 
 // A tag, where its data stand, and the place behind them.
@@ -56,19 +55,6 @@ pub enum Walked {
 pub enum Tagged {
     Took { count: u64, used: usize },
     Refused(Refusal),
-}
-
-// The unsigned varint at place p; what it used counts from the message's start.
-pub fn varint_at(s: &[u8], p: usize) -> Number
-    ensures { λ r. ⌜ ofNumber r ≡ on unsigned (now (s .entry)) p ⌝ }
-{
-    match numbers::unsigned_varint(parts::rest(s, p)) {
-        Number::Took { value, used } => Number::Took {
-            value,
-            used: p + used,
-        },
-        Number::Refused(e) => Number::Refused(at(e.number, p)),
-    }
 }
 
 // Data at place p: its length as an unsigned varint, and so many bytes.

@@ -1,0 +1,2 @@
+-- a primitive at a place of the message
+pub mod OnRest
