@@ -1,2 +1,4 @@
 -- a primitive at a place of the message
 pub mod OnRest
+-- the number of items
+pub mod Counts

@@ -1,18 +1,20 @@
 -- A primitive on the rest of a message is the primitive at the place where the rest starts.
+use mathlib.Core.Bool.{Bool}
 use mathlib.Core.List.{List}
 use mathlib.Core.Path.{_∙_, _≡_, ap, refl, sym}
-use Prim.Native.Nat.{_+_, _<_, _^_, ℕ}
+use Prim.Native.Nat.{_-_, _<_, _^_, ℕ}
 use native.Mathlib.Decide.{decLe}
 use native.Mathlib.Omega.{arith}
 use lib.ListN.{drop, length}
-use Rattle.layout.specs.Reading.{Reader, Refusal, Res, bad, because, give, ok}
-use Rattle.layout.specs.Primitives.{Width, cell, cellOf, int, signed, size, unsigned}
-use Rattle.layout.proofs.Local.{Local, local-cell, local-unsigned, not-ok}
-use Rattle.layout.proofs.Steps.{int-bad, int-ok, then-bad, then-ok}
+use Rattle.layout.specs.Reading.{Reader, Refusal, Res, bad, because, give, next, ok, then}
+use Rattle.layout.specs.Primitives.{Size, Width, admits, cell, cellOf, checked, int, lengthOf, refusal, signed, size, unsigned}
+use Rattle.layout.specs.Rows.{items}
+use Rattle.layout.proofs.Local.{Local, local-cell, local-checked, local-give, local-length, local-then, local-unsigned, not-ok}
+use Rattle.layout.proofs.Steps.{int-bad, int-ok, primitive-place, then-bad, then-ok}
 use Rattle.primitives.proofs.Zigzag.{placed-0}
-use Rattle.rows.specs.Walk.{on}
-use Rattle.rows.proofs.Moves.{Moves, at-fits, at-no, at-took, moves-cell, moves-unsigned, still}
-use Rattle.places.specs.Moved.{Fits, fromPlace}
+use Rattle.rows.specs.Walk.{itemCount, on}
+use Rattle.rows.proofs.Moves.{Moves, at-fits, at-no, at-took, moves-cell, moves-items, moves-unsigned, still}
+use Rattle.places.specs.Moved.{Fits, arrayItems, fromPlace}
 
 -- what a primitive owes to be read so: it does not look where it stands, takes no more than is there, and refuses at its own start
 pub record Portable {A : Type 0} (r : Reader A) (g : ℕ → A → A) : Type 0 where
@@ -35,6 +37,26 @@ portable-cell w = record { moves = moves-cell w; local = local-cell w; at-start 
 
 pub portable-unsigned : Portable unsigned still
 portable-unsigned = record { moves = moves-unsigned; local = local-unsigned; at-start = placed-0 }
+
+items-start : (w : Bool) (z : Size) (s : List ℕ) (e : Refusal) → itemCount w z 0 s ≡ bad e → e ≡ because (e .number) 0
+unfolding itemCount then give checked
+items-start w z s e h = go (checked (admits w z) (refusal z) (lengthOf unsigned z) 0 s) refl h
+  where
+    go : (o : Res ℕ) → checked (admits w z) (refusal z) (lengthOf unsigned z) 0 s ≡ o → next o (λ n. give (n - 1)) 0 s ≡ bad e → e ≡ because (e .number) 0
+    go (ok n m) d g = not-ok (sym g)
+    go (bad c) d g = primitive-place _ 0 s e (d ∙ g)
+
+portable-count : (w : Bool) (z : Size) → Portable (itemCount w z) still
+unfolding itemCount
+portable-count w z = record {
+  moves = moves-items w z;
+  local = local-then _ _ (local-checked _ _ _ (local-length unsigned local-unsigned z)) (λ n. local-give (n - 1));
+  at-start = items-start w z;
+}
+
+pub portable-items : (f w : Bool) → Portable (arrayItems f w) still
+unfolding arrayItems
+portable-items f w = portable-count w (items f)
 
 module _ {A : Type 0} (r : Reader A) (g : ℕ → A → A) (h : Portable r g) (s left : List ℕ) (p : ℕ) (i : left ≡ drop p s) where
   pub at-place : (o z : Res A) → o ≡ r 0 left → z ≡ fromPlace g p o → z ≡ on r s p

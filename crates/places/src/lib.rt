@@ -2,9 +2,13 @@
 ghost use mathlib.Core.Path.{_≡_};
 ghost use Rattle.layout.specs.Primitives.{cell, unsigned, w16, w32};
 ghost use Rattle.primitives.specs.Answers.{ofNumber};
+ghost use Rattle.fields.specs.Answers.{ofCount};
 ghost use Rattle.rows.specs.Walk.{on};
-ghost use Rattle.places.specs.Moved.{Fits, fromPlace};
+ghost use Rattle.places.specs.Moved.{Fits, arrayCount, arrayItems, fromPlace, itemsOf};
+use fields::Count;
+use fields::counts;
 use fields::parts;
+use primitives::NULL_ITEMS;
 use primitives::Number;
 use primitives::at;
 use primitives::numbers;
@@ -38,4 +42,36 @@ pub fn varint_at(s: &[u8], p: usize) -> Number
     ensures { λ r. ⌜ ofNumber r ≡ on unsigned (now (s .entry)) p ⌝ }
 {
     moved(numbers::unsigned_varint(parts::rest(s, p)), p)
+}
+
+// The count of an array, compact or not.
+fn count(s: &[u8], flexible: bool) -> Count
+    ensures { λ r. ⌜ ofCount r ≡ arrayCount flexible 0 (now (s .entry)) ⌝ }
+{
+    if flexible {
+        return counts::compact_length(s);
+    }
+    counts::length32(s)
+}
+
+fn items(c: Count, whole: bool) -> Number
+    ensures { λ r. ⌜ ofNumber r ≡ itemsOf whole (ofCount c) ⌝ }
+{
+    match c {
+        Count::Took { count, used } => Number::Took { value: count, used },
+        Count::Null { used } => {
+            if whole {
+                return Number::Refused(at(NULL_ITEMS, 0));
+            }
+            Number::Took { value: 0, used }
+        }
+        Count::Refused(e) => Number::Refused(e),
+    }
+}
+
+// How many items an array has. Null is none, and refused in a whole read.
+pub fn items_at(s: &[u8], p: usize, flexible: bool, whole: bool) -> Number
+    ensures { λ r. ⌜ ofNumber r ≡ on (arrayItems flexible whole) (now (s .entry)) p ⌝ }
+{
+    moved(items(count(parts::rest(s, p), flexible), whole), p)
 }

@@ -15,7 +15,7 @@ use Rattle.layout.specs.Read.{byPlace, readBasic, readBlob, readText}
 use Rattle.layout.specs.Tables.{Span}
 use Rattle.layout.specs.Utf8.{utf8}
 use Rattle.layout.proofs.Local.{Local}
-use Rattle.rows.specs.Walk.{on}
+use Rattle.rows.specs.Walk.{itemCount, on}
 
 -- d further on: g is what becomes of the value
 abbrev pub moved : {A : Type 0} → ℕ → (A → A) → Res A → Res A
@@ -110,6 +110,10 @@ moves-length plain = moves-then _ _ _ moves-unsigned (λ n. moves-give _)
 pub moves-checked : (a : Bool) (e : ℕ) (z : Size) → Moves (checked a e (lengthOf unsigned z)) still
 unfolding checked
 moves-checked a e z = moves-primitive _ _ (moves-then _ _ _ (moves-length z) (λ n. moves-pick _ _ _ _ (moves-pick _ _ _ _ (moves-give _) (moves-fail _ _)) (moves-give _)))
+
+pub moves-items : (w : Bool) (z : Size) → Moves (itemCount w z) still
+unfolding itemCount
+moves-items w z = moves-then _ _ _ (moves-checked _ _ z) (λ n. moves-give _)
 
 -- a part of the message
 abbrev pub further : ℕ → Span → Span

@@ -2,9 +2,10 @@
 use mathlib.Core.Bool.{Bool}
 use mathlib.Core.List.{List}
 use mathlib.Core.Path.{_≡_}
-use Prim.Native.Nat.{ℕ}
+use Prim.Native.Nat.{_-_, ℕ}
 use lib.ListN.{drop}
-use Rattle.layout.specs.Reading.{Reader, Res, more}
+use Rattle.layout.specs.Reading.{Reader, Res, give, more, then}
+use Rattle.layout.specs.Primitives.{Size, admits, checked, lengthOf, refusal, unsigned}
 use Rattle.layout.specs.Rows.{Shape}
 use Rattle.layout.specs.Tables.{readRows}
 use Rattle.rows.specs.Store.{State, Tab, add, store}
@@ -12,6 +13,10 @@ use Rattle.rows.specs.Store.{State, Tab, add, store}
 -- a reader at place p of the message s; what it used counts from the message's start
 unfoldable pub on : {A : Type 0} → Reader A → List ℕ → ℕ → Res A
 on r s p = more p (r p (drop p s))
+
+-- the number of items in front of an array that has no null of its own: null is none, or refused (w: a whole read)
+unfoldable pub itemCount : Bool → Size → Reader ℕ
+itemCount w z = then (checked (admits w z) (refusal z) (lengthOf unsigned z)) (λ n. give (n - 1))
 
 -- the one reader of all layouts, with stores into lent tables
 abbrev pub walk : Bool → Shape → ℕ → State → Reader State
