@@ -16,7 +16,7 @@ use Rattle.rows.specs.Store.{State, Tab, add, own, store}
 use Rattle.rows.specs.Walk.{Place, on, walk}
 use Rattle.rows.proofs.Stores.{add-two}
 
-add-none : (o : ℕ) (st : State) → add o [] st ≡ st
+pub add-none : (o : ℕ) (st : State) → add o [] st ≡ st
 unfolding add store
 add-none o st = set-getD st o (own [])
 

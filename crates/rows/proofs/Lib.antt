@@ -17,6 +17,8 @@ pub mod Reply
 pub mod Moves
 -- a row as one read and one store
 pub mod Flat
+-- the fields at the front of a row
+pub mod Front
 -- a row's end and its arrays
 pub mod Arrays
 -- the same for walks, whose counts stop above the limit

@@ -31,3 +31,11 @@ pub fn store3(table: &mut [u64], mark: usize, a: u64, b: u64, c: u64) -> usize
     let third = store(table, second, b);
     store(table, third, c)
 }
+
+// A row of four cells.
+pub fn store4(table: &mut [u64], mark: usize, a: u64, b: u64, c: u64, d: u64) -> usize
+    ensures { λ r. ⌜ tab (now (table .exit)) r ≡ store (tab (now (table .entry)) mark) (a ∷ b ∷ c ∷ d ∷ []) ⌝ }
+{
+    let second = store(table, mark, a);
+    store3(table, second, b, c, d)
+}
