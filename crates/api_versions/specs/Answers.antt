@@ -1,0 +1,20 @@
+-- What the answers of the calls say in the definition's words: the own row of a body, cell by cell, and the numbers of docs/RULES.md.
+use mathlib.Core.List.{List, [], _++_, _∷_}
+use Prim.Native.Nat.{ℕ}
+use Rattle.layout.specs.Answers.{Answer, accepted, refused}
+use Rattle.primitives.specs.Answers.{ofRefusal}
+use Rattle.api_versions.specs.declared.Response.{Response}
+use Rattle.api_versions.specs.declared.ResponseReply.{ResponseReply}
+use Rattle.api_versions.specs.declared.Throttle.{Throttle}
+
+-- the kind, 0 for absent or unset and 2 for present, and the number
+abbrev pub ofThrottle : Throttle → List ℕ
+ofThrottle Throttle.Absent = 0 ∷ 0 ∷ []
+ofThrottle (Throttle.Present n) = 2 ∷ n ∷ []
+
+abbrev pub ofResponse : Response → List ℕ
+ofResponse x = x .error ∷ x .items ∷ (ofThrottle (x .throttle) ++ (x .tags ∷ []))
+
+abbrev pub ofResponseReply : ResponseReply → Answer
+ofResponseReply (ResponseReply.Took x n) = accepted (ofResponse x) n
+ofResponseReply (ResponseReply.Refused e) = refused (ofRefusal e)

@@ -1,0 +1,25 @@
+// ApiVersions, versions 0 to 3, read: what a client says of itself, and what a broker offers.
+// Numbers are cells, as in the tables: 64 bits, two's complement.
+use primitives::Refusal;
+
+pub mod response;
+
+// The throttle time: version 0 lacks it, and a writer may leave it unset.
+pub enum Throttle {
+    Absent,
+    Present(u64),
+}
+
+// The own row of a response: error, number of items, throttle time, and number of its own tags, the cell of -1 where they are unset or absent.
+pub struct Response {
+    pub error: u64,
+    pub items: u64,
+    pub throttle: Throttle,
+    pub tags: u64,
+}
+
+// The own row of a response and the bytes used.
+pub enum ResponseReply {
+    Took { body: Response, used: usize },
+    Refused(Refusal),
+}
