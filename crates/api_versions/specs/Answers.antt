@@ -3,7 +3,7 @@ use mathlib.Core.List.{List, [], _++_, _∷_}
 use Prim.Native.Nat.{ℕ}
 use Rattle.layout.specs.Answers.{Answer, accepted, refused}
 use Rattle.primitives.specs.Answers.{ofRefusal}
-use Rattle.api_versions.specs.declared.Response.{Response}
+use Rattle.api_versions.specs.declared.ResponseBody.{ResponseBody}
 use Rattle.api_versions.specs.declared.ResponseReply.{ResponseReply}
 use Rattle.api_versions.specs.declared.Throttle.{Throttle}
 
@@ -12,7 +12,7 @@ abbrev pub ofThrottle : Throttle → List ℕ
 ofThrottle Throttle.Absent = 0 ∷ 0 ∷ []
 ofThrottle (Throttle.Present n) = 2 ∷ n ∷ []
 
-abbrev pub ofResponse : Response → List ℕ
+abbrev pub ofResponse : ResponseBody → List ℕ
 ofResponse x = x .error ∷ x .items ∷ (ofThrottle (x .throttle) ++ (x .tags ∷ []))
 
 abbrev pub ofResponseReply : ResponseReply → Answer

@@ -9,7 +9,7 @@ unfoldable pub tagsShape : Bool → Shape
 tagsShape f = standing f plain 2 (stands f natural (stands f (blob plain) end)) end
 
 -- the numbers of an item: key, minimum, maximum
-unfoldable pub keyFront : Shape
+abbrev pub keyFront : Shape
 keyFront = field (number w16) (field (number w16) (field (number w16) end))
 
 unfoldable pub keyShape : Bool → Shape

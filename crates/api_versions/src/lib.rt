@@ -11,7 +11,7 @@ pub enum Throttle {
 }
 
 // The own row of a response: error, number of items, throttle time, and number of its own tags, the cell of -1 where they are unset or absent.
-pub struct Response {
+pub struct ResponseBody {
     pub error: u64,
     pub items: u64,
     pub throttle: Throttle,
@@ -20,6 +20,6 @@ pub struct Response {
 
 // The own row of a response and the bytes used.
 pub enum ResponseReply {
-    Took { body: Response, used: usize },
+    Took { body: ResponseBody, used: usize },
     Refused(Refusal),
 }

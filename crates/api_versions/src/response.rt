@@ -4,6 +4,7 @@ ghost use mathlib.Core.List.{[], _∷_};
 ghost use mathlib.Core.Bool.{false, true};
 ghost use Prim.Native.Nat.{_≤_};
 ghost use lib.IntN.{pos};
+ghost use lib.ListN.{length};
 ghost use Rattle.layout.specs.Reading.{loop};
 ghost use Rattle.layout.specs.Read.{byPlace, read};
 ghost use Rattle.layout.specs.Answers.{prefixRead, readAnswer, wholeRead};
@@ -12,8 +13,8 @@ ghost use Rattle.rows.specs.Store.{own, tab};
 ghost use Rattle.rows.specs.Walk.{Runs, on, walk};
 ghost use Rattle.api_versions.specs.Answers.{ofResponseReply};
 ghost use Rattle.api_versions.specs.Shapes.{bodyShape, keyFront, keyShape, tailShape};
-ghost use Rattle.api_versions.specs.Walks.{behindItems, headCells, inTables, ofHead, ofKey, ofTail, ofThrottled, ofWalked, rowsIs, throttle};
-use crate::Response;
+ghost use Rattle.api_versions.specs.Walks.{behindItems, finish, inTables, isLeft, ofKey, ofTail, ofThrottled, ofWalked, rowsIs, throttle};
+use crate::ResponseBody;
 use crate::ResponseReply;
 use crate::Throttle;
 use places::int16_at;
@@ -28,6 +29,7 @@ use primitives::Refusal;
 use primitives::TOO_LONG;
 use primitives::at;
 use primitives::no_room;
+use primitives::version_of;
 use rows::store4;
 use tags::Tags;
 use tags::tags_at;
@@ -56,16 +58,6 @@ pub enum Rows {
     Refused(Refusal),
 }
 
-// What stands before the items.
-pub enum Head {
-    Took {
-        error: u64,
-        count: u64,
-        next: usize,
-    },
-    Refused(Refusal),
-}
-
 // The throttle time, and the place behind it.
 pub enum Throttled {
     Took { throttle: Throttle, next: usize },
@@ -86,7 +78,7 @@ pub enum Tail {
 // A body, the place behind it, and the marks of the tables.
 pub enum Walked {
     Took {
-        body: Response,
+        body: ResponseBody,
         next: usize,
         items: usize,
         tags: usize,
@@ -100,9 +92,18 @@ fn key_at(s: &[u8], p: usize) -> Key
     ensures { λ r. ⌜ ofKey r ≡ on (read (byPlace false) keyFront) (now (s .entry)) p ⌝ }
 {
     match int16_at(s, p) {
-        Number::Took { value: key, used: q } => match int16_at(s, q) {
-            Number::Took { value: min, used: u } => match int16_at(s, u) {
-                Number::Took { value: max, used: next } => Key::Took {
+        Number::Took {
+            value: key,
+            used: q,
+        } => match int16_at(s, q) {
+            Number::Took {
+                value: min,
+                used: u,
+            } => match int16_at(s, u) {
+                Number::Took {
+                    value: max,
+                    used: next,
+                } => Key::Took {
                     key,
                     min,
                     max,
@@ -122,11 +123,11 @@ fn item_at(
     p: usize,
     flexible: bool,
     items: &mut [u64],
-    item_mark: usize,
+    row: usize,
     tags: &mut [u64],
-    tag_mark: usize,
+    tag: usize,
 ) -> Rows
-    ensures { λ r. ⌜ Runs (λ e. walk (e .0) (keyShape flexible) 1) (now (s .entry)) p (inTables (now (items .entry)) item_mark (now (tags .entry)) tag_mark) (rowsIs (now (items .exit)) (now (tags .exit)) r) ⌝ }
+    ensures { λ r. ⌜ Runs (λ e. walk (e .0) (keyShape flexible) 1) (now (s .entry)) p (inTables (now (items .entry)) row (now (tags .entry)) tag) (rowsIs (now (items .exit)) (now (tags .exit)) r) ⌝ }
 {
     match key_at(s, p) {
         Key::Took {
@@ -136,18 +137,21 @@ fn item_at(
             next,
         } => {
             if !flexible {
-                let mark = store4(items, item_mark, key, min, max, ABSENT);
+                let mark = store4(items, row, key, min, max, ABSENT);
                 return Rows::Took {
                     next,
                     items: mark,
-                    tags: tag_mark,
+                    tags: tag,
                 };
             }
             match varint_at(s, next) {
                 Number::Took { value, used } => {
-                    let mark = store4(items, item_mark, key, min, max, value);
-                    match tags_at(s, used, value, tags, tag_mark) {
-                        Tags::Took { next: behind, mark: last } => Rows::Took {
+                    let mark = store4(items, row, key, min, max, value);
+                    match tags_at(s, used, value, tags, tag) {
+                        Tags::Took {
+                            next: behind,
+                            mark: last,
+                        } => Rows::Took {
                             next: behind,
                             items: mark,
                             tags: last,
@@ -175,18 +179,18 @@ fn items_in(
 {
     let mut left = count;
     let mut place = p;
-    let mut item_mark: usize = 0;
-    let mut tag_mark: usize = 0;
+    let mut row: usize = 0;
+    let mut tag: usize = 0;
     while 0 < left {
-        match item_at(s, place, flexible, items, item_mark, tags, tag_mark) {
+        match item_at(s, place, flexible, items, row, tags, tag) {
             Rows::Took {
                 next,
-                items: row,
+                items: below,
                 tags: last,
             } => {
                 place = next;
-                item_mark = row;
-                tag_mark = last;
+                row = below;
+                tag = last;
                 left = left - 1;
             }
             Rows::Refused(e) => {
@@ -196,28 +200,12 @@ fn items_in(
     }
     Rows::Took {
         next: place,
-        items: item_mark,
-        tags: tag_mark,
+        items: row,
+        tags: tag,
     }
 }
 
 // ---- around the items
-
-fn head_at(s: &[u8], flexible: bool, whole: bool) -> Head
-    ensures { λ r. ⌜ ofHead r ≡ on (headCells flexible whole) (now (s .entry)) 0 ⌝ }
-{
-    match int16_at(s, 0) {
-        Number::Took { value: error, used: p } => match items_at(s, p, flexible, whole) {
-            Number::Took { value: count, used: next } => Head::Took {
-                error,
-                count,
-                next,
-            },
-            Number::Refused(e) => Head::Refused(e),
-        },
-        Number::Refused(e) => Head::Refused(e),
-    }
-}
 
 fn throttle_at(s: &[u8], p: usize, throttled: bool) -> Throttled
     ensures { λ r. ⌜ ofThrottled r ≡ on (throttle throttled) (now (s .entry)) p ⌝ }
@@ -235,4 +223,188 @@ fn throttle_at(s: &[u8], p: usize, throttled: bool) -> Throttled
         },
         Number::Refused(e) => Throttled::Refused(e),
     }
+}
+
+// Throttle time and the body's own tags.
+fn tail_at(
+    s: &[u8],
+    p: usize,
+    throttled: bool,
+    flexible: bool,
+    tags: &mut [u64],
+    mark: usize,
+) -> Tail
+    ensures { λ r. ⌜ Runs (λ e. walk (e .whole) (tailShape throttled flexible) 0) (now (s .entry)) p (behindItems (now (tags .entry)) mark) (ofTail (now (tags .exit)) r) ⌝ }
+{
+    match throttle_at(s, p, throttled) {
+        Throttled::Took { throttle, next } => {
+            if !flexible {
+                return Tail::Took {
+                    throttle,
+                    tags: ABSENT,
+                    next,
+                    mark,
+                };
+            }
+            match varint_at(s, next) {
+                Number::Took { value, used } => match tags_at(s, used, value, tags, mark) {
+                    Tags::Took {
+                        next: behind,
+                        mark: last,
+                    } => Tail::Took {
+                        throttle,
+                        tags: value,
+                        next: behind,
+                        mark: last,
+                    },
+                    Tags::Refused(e) => Tail::Refused(e),
+                },
+                Number::Refused(e) => Tail::Refused(e),
+            }
+        }
+        Throttled::Refused(e) => Tail::Refused(e),
+    }
+}
+
+// ---- the body
+
+fn finished(error: u64, count: u64, row: usize, tail: Tail) -> Walked
+    ensures { λ r. ⌜ r ≡ finish error count row tail ⌝ }
+{
+    match tail {
+        Tail::Took {
+            throttle,
+            tags,
+            next,
+            mark,
+        } => Walked::Took {
+            body: ResponseBody {
+                error,
+                items: count,
+                throttle,
+                tags,
+            },
+            next,
+            items: row,
+            tags: mark,
+        },
+        Tail::Refused(e) => Walked::Refused(e),
+    }
+}
+
+fn body_at(
+    s: &[u8],
+    throttled: bool,
+    flexible: bool,
+    whole: bool,
+    items: &mut [u64],
+    tags: &mut [u64],
+) -> Walked
+    ensures { λ r. ⌜ ofWalked (now (items .exit)) (now (tags .exit)) r ≡ on (walk whole (bodyShape throttled flexible) 0 (own [] ∷ tab (now (items .entry)) 0 ∷ tab (now (tags .entry)) 0 ∷ [])) (now (s .entry)) 0 ⌝ }
+{
+    match int16_at(s, 0) {
+        Number::Took {
+            value: error,
+            used: p,
+        } => match items_at(s, p, flexible, whole) {
+            Number::Took {
+                value: count,
+                used: q,
+            } => match items_in(s, q, flexible, count, items, tags) {
+                Rows::Took {
+                    next,
+                    items: row,
+                    tags: tag,
+                } => finished(
+                    error,
+                    count,
+                    row,
+                    tail_at(s, next, throttled, flexible, tags, tag),
+                ),
+                Rows::Refused(e) => Walked::Refused(e),
+            },
+            Number::Refused(e) => Walked::Refused(e),
+        },
+        Number::Refused(e) => Walked::Refused(e),
+    }
+}
+
+// A whole read that ends before the message.
+fn is_left(whole: bool, next: usize, size: usize) -> bool
+    ensures { λ r. ⌜ r ≡ isLeft whole next size ⌝ }
+{
+    if whole {
+        return next < size;
+    }
+    false
+}
+
+// Once version and size are judged: over no room the walk measures; then what is left, then room in table order; then it fills.
+fn judged(msg: &[u8], v: u64, whole: bool, items: &mut [u64], tags: &mut [u64]) -> ResponseReply
+    requires { ⌜ (v ≤ 3) × (length (now msg) ≤ 1048576) ⌝ }
+    ensures { λ r. ⌜ (ofResponseReply r, now (items .exit) ∷ now (tags .exit) ∷ []) ≡ readAnswer whole Api.response (pos v) (now (items .entry) ∷ now (tags .entry) ∷ []) (now (msg .entry)) ⌝ }
+{
+    match body_at(msg, 1 <= v, 3 <= v, whole, &mut items[..0], &mut tags[..0]) {
+        Walked::Took {
+            body,
+            next,
+            items: row,
+            tags: tag,
+        } => {
+            if is_left(whole, next, msg.len()) {
+                return ResponseReply::Refused(at(BYTES_LEFT, next));
+            }
+            if items.len() / 4 < row / 4 {
+                return ResponseReply::Refused(no_room(row / 4));
+            }
+            if tags.len() / 3 < tag / 3 {
+                return ResponseReply::Refused(no_room(tag / 3));
+            }
+            body_at(msg, 1 <= v, 3 <= v, whole, items, tags);
+            ResponseReply::Took { body, used: next }
+        }
+        Walked::Refused(e) => ResponseReply::Refused(e),
+    }
+}
+
+fn answered(
+    msg: &[u8],
+    version: i16,
+    whole: bool,
+    items: &mut [u64],
+    tags: &mut [u64],
+) -> ResponseReply
+    ensures { λ r. ⌜ (ofResponseReply r, now (items .exit) ∷ now (tags .exit) ∷ []) ≡ readAnswer whole Api.response version (now (items .entry) ∷ now (tags .entry) ∷ []) (now (msg .entry)) ⌝ }
+{
+    let v = version_of(version);
+    if 3 < v {
+        return ResponseReply::Refused(at(NO_VERSION, 0));
+    }
+    if MOST < msg.len() {
+        return ResponseReply::Refused(at(TOO_LONG, 0));
+    }
+    judged(msg, v, whole, items, tags)
+}
+
+// ---- the calls: each leaves the tables as they were where it refuses, and what is behind the rows filled where it does not
+
+// A prefix read, as the Rust reads: null items are none, and bytes may be left over.
+pub fn read(msg: &[u8], version: i16, items: &mut [u64], tags: &mut [u64]) -> ResponseReply
+    ensures { λ r. ⌜ (ofResponseReply r, now (items .exit) ∷ now (tags .exit) ∷ []) ≡ prefixRead Api.response version (now (items .entry) ∷ now (tags .entry) ∷ []) (now (msg .entry)) ⌝ }
+{
+    answered(msg, version, false, items, tags)
+}
+
+// A whole read: the body of one layout is a body of no other.
+pub fn read_whole(msg: &[u8], version: i16, items: &mut [u64], tags: &mut [u64]) -> ResponseReply
+    ensures { λ r. ⌜ (ofResponseReply r, now (items .exit) ∷ now (tags .exit) ∷ []) ≡ wholeRead Api.response version (now (items .entry) ∷ now (tags .entry) ∷ []) (now (msg .entry)) ⌝ }
+{
+    answered(msg, version, true, items, tags)
+}
+
+// The body that answers a request sent at version `sent` is read whole at that version.
+pub fn read_answer(msg: &[u8], sent: i16, items: &mut [u64], tags: &mut [u64]) -> ResponseReply
+    ensures { λ r. ⌜ (ofResponseReply r, now (items .exit) ∷ now (tags .exit) ∷ []) ≡ wholeRead Api.response sent (now (items .entry) ∷ now (tags .entry) ∷ []) (now (msg .entry)) ⌝ }
+{
+    read_whole(msg, sent, items, tags)
 }

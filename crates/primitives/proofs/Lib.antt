@@ -12,3 +12,5 @@ pub mod Alone
 pub mod Zigzag
 -- a promise determines the reply
 pub mod Unique
+-- versions
+pub mod Versions

@@ -1,6 +1,6 @@
 -- What the answers of the calls say in the definition's words: the number and values of docs/RULES.md for each case of each enum.
 use Prim.Native.Nat.{ℕ}
-use lib.IntN.{ℤ}
+use lib.IntN.{negsuc, pos, ℤ}
 use mathlib.Core.Bool.{Bool}
 use Rattle.layout.specs.Reading.{Res, bad, ok}
 use Rattle.layout.specs.Reading as Reading
@@ -40,3 +40,8 @@ ofShown (Number.Refused e) = bad (ofRefusal e)
 -- the number that n carries by zigzag
 abbrev pub zigzagged : ℕ → ℤ
 zigzagged n = unzigzag n
+
+-- a version as a number that is not negative: below 0 it is above all versions that there are
+abbrev pub versionOf : ℤ → ℕ
+versionOf (pos n) = n
+versionOf (negsuc n) = 65536

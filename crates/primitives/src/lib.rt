@@ -2,7 +2,7 @@
 // `numbers` reads at the front of what is left of a message; `read` has the calls, which judge the message's size first.
 ghost use mathlib.Core.Path.{_≡_};
 ghost use Rattle.layout.specs.Reading.{because};
-ghost use Rattle.primitives.specs.Answers.{noRoom, ofRefusal};
+ghost use Rattle.primitives.specs.Answers.{noRoom, ofRefusal, versionOf};
 
 pub mod numbers;
 pub mod read;
@@ -80,4 +80,14 @@ pub fn no_room(need: usize) -> Refusal
         place: 0,
         need,
     }
+}
+
+// A version as a number to compare with a message's last one.
+pub fn version_of(version: i16) -> u64
+    ensures { λ r. ⌜ r ≡ versionOf version ⌝ }
+{
+    if version < 0 {
+        return 65536;
+    }
+    version as u64
 }

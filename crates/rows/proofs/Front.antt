@@ -6,15 +6,15 @@ use Prim.Native.Nat.{_+_, ℕ}
 use native.Mathlib.Nat.{add-zero, zero-add}
 use lib.ListN.{drop}
 use Rattle.layout.specs.Reading.{Reader, Refusal, Res, bad, give, more, ok, pair, then}
-use Rattle.layout.specs.Rows.{Shape, Value, absent, array, end, field, lacking}
+use Rattle.layout.specs.Rows.{Basic, BasicValue, Shape, Value, absent, array, end, field, lacking}
 use Rattle.layout.specs.Read.{byPlace, read, readBasic}
 use Rattle.layout.specs.Tables.{Span, absentCells, absentCount, cells, readRows}
 use Rattle.layout.proofs.Contents.{rowCells}
-use Rattle.layout.proofs.Maps.{then-assoc}
+use Rattle.layout.proofs.Maps.{over, then-assoc}
 use Rattle.rows.specs.Store.{State, add}
 use Rattle.rows.specs.Walk.{on, walk}
 use Rattle.rows.proofs.Flat.{Flat, add-none}
-use Rattle.rows.proofs.Steps.{then-no, then-took}
+use Rattle.rows.proofs.Steps.{give-took, then-no, then-took}
 use Rattle.rows.proofs.Stores.{add-two}
 
 -- the fields of l, and r behind them
@@ -26,7 +26,7 @@ onto (array z t i l) r = array z t i (onto l r)
 onto (lacking z t i l) r = lacking z t i (onto l r)
 
 -- a value that is there already
-then-give : {A B : Type 0} (x : A) (f : A → Reader B) (p : ℕ) (s : List ℕ) → then (give x) f p s ≡ f x p s
+pub then-give : {A B : Type 0} (x : A) (f : A → Reader B) (p : ℕ) (s : List ℕ) → then (give x) f p s ≡ f x p s
 unfolding then give
 then-give {A} {B} x f p s = nothing (f x (p + 0) s) ∙ ap (λ (q : ℕ). f x q s) (add-zero p)
   where
@@ -64,3 +64,19 @@ module _ (w : Bool) (r : Shape) (o : ℕ) where
 
     pub front-took : (x : Value Span l) (q : ℕ) → ok x q ≡ on (read (byPlace w) l) s p → (z : Res State) → z ≡ on (walk w r o (add o (rowCells l x) st)) s q → z ≡ on (walk w (onto l r) o st) s p
     front-took x q e z d = then-took (read (byPlace w) l) (behind l st) s p e d ∙ on-front
+
+-- ---- a row read field by field
+
+module _ (w : Bool) (k : Basic) (r : Shape) (s : List ℕ) (p : ℕ) where
+  pub field-no : (c : Refusal) → bad c ≡ on (readBasic (byPlace w) k) s p → bad c ≡ on (read (byPlace w) (field k r)) s p
+  unfolding read pair
+  field-no c e = then-no (readBasic (byPlace w) k) _ s p e
+
+  pub field-took : (x : BasicValue Span k) (q : ℕ) → ok x q ≡ on (readBasic (byPlace w) k) s p → (z : Res (Value Span r)) → z ≡ on (read (byPlace w) r) s q → over (λ y. (x, y)) z ≡ on (read (byPlace w) (field k r)) s p
+  unfolding read pair
+  field-took x q e (ok y n) d = then-took (readBasic (byPlace w) k) _ s p e (then-took (read (byPlace w) r) _ s q d (give-took (x, y) s n))
+  field-took x q e (bad c) d = then-took (readBasic (byPlace w) k) _ s p e (then-no (read (byPlace w) r) _ s q d)
+
+pub fields-end : (w : Bool) (s : List ℕ) (p : ℕ) → ok tt p ≡ on (read (byPlace w) end) s p
+unfolding read
+fields-end w s p = give-took tt s p

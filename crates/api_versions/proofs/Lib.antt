@@ -1,0 +1,8 @@
+-- an item into the tables
+pub mod ItemRows
+-- a turn of the loop over items
+pub mod ItemTurns
+-- throttle time, own tags, and the whole body
+pub mod AroundItems
+-- the whole reply of a read
+pub mod Replies

@@ -1,0 +1,67 @@
+-- What the walks over a response say in the definition's words. Table 0 is the body's own row, 1 the items, 2 the tags.
+use mathlib.Core.Bool.{Bool, _&&_, false, true}
+use mathlib.Core.List.{List, [], _++_, _∷_}
+use Prim.Native.Nat.{ℕ}
+use lib.Dec.{ltb}
+use Rattle.layout.specs.Reading.{Reader, Res, bad, give, ok, then}
+use Rattle.layout.specs.Primitives.{cell, w32}
+use Rattle.layout.specs.Rows.{Value}
+use Rattle.layout.specs.Tables.{Span}
+use Rattle.primitives.specs.Answers.{ofRefusal}
+use Rattle.rows.specs.Store.{State, Tab, own, tab}
+use Rattle.api_versions.specs.Answers.{ofResponse, ofThrottle}
+use Rattle.api_versions.specs.Shapes.{keyFront}
+use Rattle.api_versions.specs.declared.ResponseBody.{ResponseBody}
+use Rattle.api_versions.specs.declared.response.Key.{Key}
+use Rattle.api_versions.specs.declared.response.Rows.{Rows}
+use Rattle.api_versions.specs.declared.response.Tail.{Tail}
+use Rattle.api_versions.specs.declared.response.Throttled.{Throttled}
+use Rattle.api_versions.specs.declared.response.Walked.{Walked}
+
+abbrev pub ofKey : Key → Res (Value Span keyFront)
+ofKey (Key.Took a b c n) = ok (a, (b, (c, tt))) n
+ofKey (Key.Refused e) = bad (ofRefusal e)
+
+-- the tables of a walk over items: whether it is a whole read, and the own row, may be anything
+abbrev pub inTables : List ℕ → ℕ → List ℕ → ℕ → Bool × List ℕ → State
+inTables is i ts t e = own (e .1) ∷ tab is i ∷ tab ts t ∷ []
+
+abbrev pub rowsIs : List ℕ → List ℕ → Rows → Bool × List ℕ → Res State
+rowsIs is ts (Rows.Took n i t) e = ok (inTables is i ts t e) n
+rowsIs is ts (Rows.Refused c) e = bad (ofRefusal c)
+
+-- the cells of the throttle time, where the version has one
+unfoldable pub throttle : Bool → Reader (List ℕ)
+throttle true = then (cell w32) (λ n. give (2 ∷ n ∷ []))
+throttle false = give (0 ∷ 0 ∷ [])
+
+abbrev pub ofThrottled : Throttled → Res (List ℕ)
+ofThrottled (Throttled.Took x n) = ok (ofThrottle x) n
+ofThrottled (Throttled.Refused e) = bad (ofRefusal e)
+
+-- what was read before the tail: it may be anything
+pub record Before : Type 0 where
+  pub whole : Bool
+  pub error : ℕ
+  pub count : ℕ
+  pub items : Tab
+
+abbrev pub behindItems : List ℕ → ℕ → Before → State
+behindItems ts t e = own (e .error ∷ e .count ∷ []) ∷ e .items ∷ tab ts t ∷ []
+
+abbrev pub ofTail : List ℕ → Tail → Before → Res State
+ofTail ts (Tail.Took x k n t) e = ok (own (e .error ∷ e .count ∷ (ofThrottle x ++ (k ∷ []))) ∷ e .items ∷ tab ts t ∷ []) n
+ofTail ts (Tail.Refused c) e = bad (ofRefusal c)
+
+abbrev pub ofWalked : List ℕ → List ℕ → Walked → Res State
+ofWalked is ts (Walked.Took x n i t) = ok (own (ofResponse x) ∷ tab is i ∷ tab ts t ∷ []) n
+ofWalked is ts (Walked.Refused e) = bad (ofRefusal e)
+
+-- the body, from what was read before its tail and the tail
+abbrev pub finish : ℕ → ℕ → ℕ → Tail → Walked
+finish e k i (Tail.Took x n q t) = Walked.Took (record { error = e; items = k; throttle = x; tags = n }) q i t
+finish e k i (Tail.Refused c) = Walked.Refused c
+
+-- a whole read ended at q, of z bytes
+unfoldable pub isLeft : Bool → ℕ → ℕ → Bool
+isLeft w q z = w && ltb q z
