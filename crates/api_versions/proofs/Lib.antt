@@ -6,3 +6,5 @@ pub mod ItemTurns
 pub mod AroundItems
 -- the whole reply of a read
 pub mod Replies
+-- the promises determine the replies
+pub mod Unique

@@ -1,0 +1,41 @@
+-- The promises of the calls determine the replies and the tables.
+use mathlib.Core.List.{List, [], _++_, _∷_}
+use mathlib.Core.Path.{_≡_, refl}
+use Prim.Native.Nat.{ℕ, suc, zero}
+use lib.ListN.{getD}
+use Rattle.layout.specs.Tables.{Tables}
+use Rattle.layout.specs.Answers.{Answer, accepted, refused}
+use Rattle.primitives.proofs.Unique.{refusalOf, unique}
+use Rattle.api_versions.specs.Answers.{ofResponseReply, ofThrottle}
+use Rattle.api_versions.specs.declared.ResponseBody.{ResponseBody}
+use Rattle.api_versions.specs.declared.ResponseReply.{ResponseReply}
+use Rattle.api_versions.specs.declared.Throttle.{Throttle}
+
+abbrev throttleOf : ℕ → ℕ → Throttle
+throttleOf zero n = Throttle.Absent
+throttleOf (suc k) n = Throttle.Present n
+
+abbrev bodyOf : List ℕ → ResponseBody
+bodyOf cs = record { error = getD cs 0 0; items = getD cs 1 0; throttle = throttleOf (getD cs 2 0) (getD cs 3 0); tags = getD cs 4 0 }
+
+body-back : (e k : ℕ) (t : Throttle) (g : ℕ) → bodyOf (e ∷ k ∷ (ofThrottle t ++ (g ∷ []))) ≡ record { error = e; items = k; throttle = t; tags = g }
+body-back e k Throttle.Absent g = refl
+body-back e k (Throttle.Present n) g = refl
+
+abbrev replyOf : Answer → ResponseReply
+replyOf (accepted cs n) = ResponseReply.Took (bodyOf cs) n
+replyOf (refused e) = ResponseReply.Refused (refusalOf e)
+
+-- a reply, and the tables of items and of tags behind it
+abbrev pub Told : Type 0
+Told = ResponseReply × (List ℕ × List ℕ)
+
+abbrev pub said : Told → Answer × Tables
+said x = (ofResponseReply (x .0), x .1 .0 ∷ x .1 .1 ∷ [])
+
+said-back : (x : Told) → (replyOf (said x .0), (getD (said x .1) 0 [], getD (said x .1) 1 [])) ≡ x
+said-back (ResponseReply.Took b n, ts) = λ i. (ResponseReply.Took (body-back (b .error) (b .items) (b .throttle) (b .tags) i) n, ts)
+said-back (ResponseReply.Refused e, ts) = refl
+
+pub response-unique : (o : Answer × Tables) (x y : Told) → said x ≡ o → said y ≡ o → x ≡ y
+response-unique = unique said (λ (o : Answer × Tables). (replyOf (o .0), (getD (o .1) 0 [], getD (o .1) 1 []))) said-back
