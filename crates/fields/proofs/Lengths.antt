@@ -1,19 +1,22 @@
 -- Lengths and counts, and what stands behind them: what each step answers, and what a field's reader makes of it. One law over the form.
-use mathlib.Core.Bool.{Bool, false, true}
+use mathlib.Core.Bool.{Bool, cond, false, true}
 use mathlib.Core.List.{List}
 use mathlib.Core.Logic.{_≢_}
 use mathlib.Core.Path.{_∙_, _≡_, ap, refl, sym}
 use Prim.Native.Nat.{_+_, _-_, _<_, _^_, _≤_, suc, zero, ℕ}
 use native.Mathlib.Nat.{add-zero}
 use native.Mathlib.Omega.{arith}
-use lib.Dec.{eqb}
+use lib.Dec.{eqb, ltb}
+use lib.ListN.{drop}
 use borrow.Author.Tests.{eq-eqb, ne-eqb}
-use Rattle.layout.specs.Reading.{Reader, Refusal, Res, bad, because, fail, give, ok, pick, placed, primitive, then}
+use Rattle.layout.specs.Reading.{Reader, Refusal, Res, bad, because, fail, give, more, ok, pick, placed, primitive, then}
 use Rattle.layout.specs.Primitives.{Null, Width, bits, checked, compact, fixed, int, lengthOf, size, unsigned}
 use Rattle.layout.proofs.Steps.{then-bad, then-ok}
 use Rattle.layout.proofs.Tests.{lt-false, lt-true, one-more}
 use Rattle.primitives.proofs.Cells.{int-refuses}
-use Rattle.fields.specs.Answers.{counted}
+use Rattle.primitives.specs.Answers.{ofNumber}
+use Rattle.primitives.specs.declared.Number.{Number}
+use Rattle.fields.specs.Answers.{counted, ofLength}
 
 -- ---- a length that may be null or not
 
@@ -61,37 +64,37 @@ module _ (len : Reader ℕ) (s : List ℕ) where
 
 -- ---- a number of the width w, looked at as not negative
 
+-- one case each
+module _ (n : Number) (half null v u : ℕ) (i : n ≡ Number.Took v u) where
+  pub length-some : v < half → ok (v + 1) u ≡ ofLength half null n
+  length-some h = sym (ap (ofLength half null) i ∙ rw (lt-true v half h))
+
+  pub length-null : half ≤ v → v ≡ null → ok 0 u ≡ ofLength half null n
+  length-null h g = sym (ap (ofLength half null) i ∙ rw (lt-false v half h, eq-eqb v null g))
+
+  pub length-below : half ≤ v → v ≢ null → (c : Refusal) → c ≡ because 4 0 → bad c ≡ ofLength half null n
+  length-below h g c e = ap bad e ∙ sym (ap (ofLength half null) i ∙ rw (lt-false v half h, ne-eqb v null g))
+
 module _ (w : Width) (m : Null) (s : List ℕ) where
-  abbrev len : Reader ℕ
-  len = lengthOf unsigned (fixed w m)
+  -- what a length judged with its null makes of the number
+  judged-is : (v u : ℕ) → int (size w) 0 s ≡ ok v u → cond (ltb v (2 ^ (bits w - 1))) (ok (v + 1) u) (cond (eqb v (2 ^ bits w - 1)) (ok 0 u) (bad (because 4 0))) ≡ counted (fixed w m) 0 s
+  unfolding counted lengthOf pick give fail
+  judged-is v u h = go (ltb v (2 ^ (bits w - 1))) (eqb v (2 ^ bits w - 1)) (then-ok (int (size w)) _ 0 s v u h)
+    where
+      go : (a b : Bool) → lengthOf unsigned (fixed w m) 0 s ≡ more u (pick a (give (v + 1)) (pick b (give 0) (fail 4)) (0 + u) (drop u s)) → cond a (ok (v + 1) u) (cond b (ok 0 u) (bad (because 4 0))) ≡ counted (fixed w m) 0 s
+      go true b e = sym (checked-some (lengthOf unsigned (fixed w m)) s true 4 v u (e ∙ ap (λ (k : ℕ). ok (v + 1) k) (add-zero u)))
+      go false true e = sym (checked-null (lengthOf unsigned (fixed w m)) s 4 u (e ∙ ap (λ (k : ℕ). ok 0 k) (add-zero u)))
+      go false false e = sym (checked-bad (lengthOf unsigned (fixed w m)) s true 4 _ e)
 
-  some-is : (n u : ℕ) → int (size w) 0 s ≡ ok n u → n < 2 ^ (bits w - 1) → len 0 s ≡ ok (n + 1) u
-  unfolding lengthOf pick give
-  some-is n u h l = then-ok (int (size w)) _ 0 s n u h ∙ rw (lt-true n (2 ^ (bits w - 1)) l) (ap (λ (k : ℕ). ok (n + 1) k) (add-zero u))
-
-  pub length-some : (n u : ℕ) → int (size w) 0 s ≡ ok n u → n < 2 ^ (bits w - 1) → ok (n + 1) u ≡ counted (fixed w m) 0 s
-  unfolding counted
-  length-some n u h l = sym (checked-some (lengthOf unsigned (fixed w m)) s true 4 n u (some-is n u h l))
-
-  null-is : (n u : ℕ) → int (size w) 0 s ≡ ok n u → 2 ^ (bits w - 1) ≤ n → n ≡ 2 ^ bits w - 1 → len 0 s ≡ ok 0 u
-  unfolding lengthOf pick give
-  null-is n u h l g = then-ok (int (size w)) _ 0 s n u h ∙ rw (lt-false n (2 ^ (bits w - 1)) l, eq-eqb n (2 ^ bits w - 1) g) (ap (λ (k : ℕ). ok 0 k) (add-zero u))
-
-  pub length-null : (n u : ℕ) → int (size w) 0 s ≡ ok n u → 2 ^ (bits w - 1) ≤ n → n ≡ 2 ^ bits w - 1 → ok 0 u ≡ counted (fixed w m) 0 s
-  unfolding counted
-  length-null n u h l g = sym (checked-null (lengthOf unsigned (fixed w m)) s 4 u (null-is n u h l g))
-
-  below-is : (n u : ℕ) → int (size w) 0 s ≡ ok n u → 2 ^ (bits w - 1) ≤ n → n ≢ 2 ^ bits w - 1 → len 0 s ≡ bad (because 4 (0 + u))
-  unfolding lengthOf pick fail
-  below-is n u h l g = then-ok (int (size w)) _ 0 s n u h ∙ rw (lt-false n (2 ^ (bits w - 1)) l, ne-eqb n (2 ^ bits w - 1) g)
-
-  pub length-below : (n u : ℕ) → int (size w) 0 s ≡ ok n u → 2 ^ (bits w - 1) ≤ n → n ≢ 2 ^ bits w - 1 → (c : Refusal) → c ≡ because 4 0 → bad c ≡ counted (fixed w m) 0 s
-  unfolding counted
-  length-below n u h l g c i = ap bad i ∙ sym (checked-bad (lengthOf unsigned (fixed w m)) s true 4 _ (below-is n u h l g))
-
-  pub length-cut : (c : Refusal) → int (size w) 0 s ≡ bad c → bad c ≡ counted (fixed w m) 0 s
+  pub length-is : (n : Number) (o : Res ℕ) → ofNumber n ≡ int (size w) 0 s → o ≡ ofLength (2 ^ (bits w - 1)) (2 ^ bits w - 1) n → o ≡ counted (fixed w m) 0 s
   unfolding counted lengthOf
-  length-cut c h = ap bad (int-refuses (size w) s c h) ∙ sym (checked-bad (lengthOf unsigned (fixed w m)) s true 4 c (then-bad (int (size w)) _ 0 s c h) ∙ ap (λ (e : Refusal). bad (because (e .number) 0)) (int-refuses (size w) s c h))
+  length-is n o e d = d ∙ go n e
+    where
+      go : (n : Number) → ofNumber n ≡ int (size w) 0 s → ofLength (2 ^ (bits w - 1)) (2 ^ bits w - 1) n ≡ counted (fixed w m) 0 s
+      go (Number.Took v u) e = judged-is v u (sym e)
+      go (Number.Refused c) e =
+          ap bad (int-refuses (size w) s _ (sym e))
+          ∙ sym (checked-bad (lengthOf unsigned (fixed w m)) s true 4 _ (then-bad (int (size w)) _ 0 s _ (sym e)) ∙ ap (λ (c : Refusal). bad (because (c .number) 0)) (int-refuses (size w) s _ (sym e)))
 
 -- ---- an unsigned varint, one more than the length
 

@@ -2,9 +2,10 @@
 use mathlib.Core.Option.{Option, none, some}
 use Prim.Native.Nat.{_+_, ℕ}
 use lib.ListN.{drop}
-use mathlib.Core.Bool.{false, true}
+use lib.Dec.{eqb, ltb}
+use mathlib.Core.Bool.{cond, false, true}
 use mathlib.Core.List.{List}
-use Rattle.layout.specs.Reading.{Reader, Res, bad, more, ok, placed}
+use Rattle.layout.specs.Reading.{Reader, Res, bad, because, more, ok, placed}
 use Rattle.layout.specs.Primitives.{Size, checked, lengthOf, unsigned}
 use Rattle.layout.specs.Read.{byPlace, readBlob, readText}
 use Rattle.layout.specs.Tables.{Span}
@@ -13,6 +14,7 @@ use Rattle.fields.specs.declared.Field.{Field}
 use Rattle.fields.specs.declared.Nullable.{Nullable}
 use Rattle.fields.specs.declared.Part.{Part}
 use Rattle.primitives.specs.Answers.{ofRefusal}
+use Rattle.primitives.specs.declared.Number.{Number}
 
 -- one more than the length, and 0 for null
 abbrev pub ofCount : Count → Res ℕ
@@ -33,6 +35,11 @@ ofField (Field.Present a k) = some (some (a, k))
 abbrev pub ofNullable : Nullable → Res (Option (Option Span))
 ofNullable (Nullable.Took f n) = ok (ofField f) n
 ofNullable (Nullable.Refused e) = bad (ofRefusal e)
+
+-- a number looked at as a length: below −1 it is refused
+abbrev pub ofLength : ℕ → ℕ → Number → Res ℕ
+ofLength half null (Number.Took v n) = cond (ltb v half) (ok (v + 1) n) (cond (eqb v null) (ok 0 n) (bad (because 4 0)))
+ofLength half null (Number.Refused e) = bad (ofRefusal e)
 
 -- a length or count with its null, refused at its own start
 unfoldable pub counted : Size → Reader ℕ

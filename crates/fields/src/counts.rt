@@ -1,22 +1,23 @@
 // Lengths and counts at the front of what is left of a message.
 ghost use mathlib.Core.Path.{_≡_};
 ghost use Rattle.layout.specs.Primitives.{compact, fixed, kept, w16, w32};
-ghost use Rattle.fields.specs.Answers.{counted, ofCount};
+ghost use Rattle.fields.specs.Answers.{counted, ofCount, ofLength};
 use crate::Count;
 use primitives::LENGTH_BELOW;
 use primitives::Number;
 use primitives::at;
 use primitives::numbers;
 
-pub fn length16(s: &[u8]) -> Count
-    ensures { λ r. ⌜ ofCount r ≡ counted (fixed w16 kept) 0 (now (s .entry)) ⌝ }
+// A number that is not negative, looked at as a length: from half on it stands for a negative number, and null is -1.
+fn length(n: Number, half: u64, null: u64) -> Count
+    ensures { λ r. ⌜ ofCount r ≡ ofLength half null n ⌝ }
 {
-    match numbers::uint16(s) {
+    match n {
         Number::Took { value, used } => {
-            if value < 32768 {
+            if value < half {
                 return Count::Took { count: value, used };
             }
-            if value == 65535 {
+            if value == null {
                 return Count::Null { used };
             }
             Count::Refused(at(LENGTH_BELOW, 0))
@@ -25,21 +26,16 @@ pub fn length16(s: &[u8]) -> Count
     }
 }
 
+pub fn length16(s: &[u8]) -> Count
+    ensures { λ r. ⌜ ofCount r ≡ counted (fixed w16 kept) 0 (now (s .entry)) ⌝ }
+{
+    length(numbers::uint16(s), 32768, 65535)
+}
+
 pub fn length32(s: &[u8]) -> Count
     ensures { λ r. ⌜ ofCount r ≡ counted (fixed w32 kept) 0 (now (s .entry)) ⌝ }
 {
-    match numbers::uint32(s) {
-        Number::Took { value, used } => {
-            if value < 2147483648 {
-                return Count::Took { count: value, used };
-            }
-            if value == 4294967295 {
-                return Count::Null { used };
-            }
-            Count::Refused(at(LENGTH_BELOW, 0))
-        }
-        Number::Refused(e) => Count::Refused(e),
-    }
+    length(numbers::uint32(s), 2147483648, 4294967295)
 }
 
 // One more than the length, 0 for null.

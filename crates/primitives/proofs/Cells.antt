@@ -1,19 +1,24 @@
 -- The bytes of a number, and the cell that shows it: one law for all widths.
-use mathlib.Core.Bool.{Bool, false, true}
+use mathlib.Core.Bool.{Bool, cond, false, true}
 use mathlib.Core.List.{List, [], _++_, _∷_}
-use mathlib.Core.Path.{_∙_, _≡_, ap, refl, sym}
-use Prim.Native.Nat.{_*_, _+_, _-_, _<_, _^_, _≤_, ℕ}
+use mathlib.Core.Path.{_∙_, _≡_, ap, refl, subst, sym}
+use Prim.Native.Nat.{_*_, _+_, _-_, _<_, _^_, _≤_, suc, ℕ}
 use native.Mathlib.Decide.{decLe}
 use native.Mathlib.Nat.{add-mul, add-zero, mul-assoc, mul-comm, pow-suc}
 use native.Mathlib.Omega.{arith}
 use lib.Dec.{ltb}
 use lib.ListN.{drop, getD, length, length-drop, take}
 use lib.Seq.{length-take-le, take-add}
-use Rattle.layout.specs.Reading.{Refusal, bad, because, give, ok}
+use mir.Syntax as Mir
+use mir.Val.{Fits}
+use Rattle.layout.specs.Reading.{Refusal, Res, bad, because, give, ok}
 use Rattle.layout.specs.Primitives.{Width, be, bits, cell, flag, int, size, w64}
-use Rattle.layout.proofs.Cells.{above, extend, extend-high, extend-low}
-use Rattle.layout.proofs.Tests.{of-ge, of-lt}
+use Rattle.layout.proofs.Canon.{Bytes, canon-int}
+use Rattle.layout.proofs.Cells.{above, extend, extend-high, extend-low, powers}
+use Rattle.layout.proofs.Tests.{lt-false, lt-true, of-ge, of-lt}
 use Rattle.layout.proofs.Steps.{int-bad, int-ok, then-bad, then-ok}
+use Rattle.primitives.specs.Answers.{Below, ofExtended, ofNumber}
+use Rattle.primitives.specs.declared.Number.{Number}
 
 -- the first bytes, by their index
 pub be-2 : (s : List ℕ) → 2 ≤ length s → be 0 (take 2 s) ≡ getD s 0 0 * 256 + getD s 1 0
@@ -66,6 +71,30 @@ module _ (k : ℕ) (s : List ℕ) where
         | no l ↦ let g = int-bad k 0 s (omega arith) in cc
       ]
 
+-- the bytes of a slice
+pub bytes-of : (s : List ℕ) → ((i : ℕ) → Fits Mir.w8 (getD s i 0)) → Bytes s
+bytes-of [] h = tt
+bytes-of (b ∷ s) h = (h 0 .fits, bytes-of s (λ i. h (suc i)))
+
+-- from half on the bits above the width are filled
+extends : (w : Width) (n : ℕ) → n < 2 ^ bits w → cond (ltb n (2 ^ (bits w - 1))) n (n + above w * 256 ^ size w) ≡ extend w n
+extends w n h = go (ltb n (2 ^ (bits w - 1))) refl
+  where
+    go : (b : Bool) → ltb n (2 ^ (bits w - 1)) ≡ b → cond b n (n + above w * 256 ^ size w) ≡ extend w n
+    go true e = sym (extend-low w n (of-lt _ _ e))
+    go false e = sym (extend-high w n (of-ge _ _ e) h)
+
+-- one case each
+module _ (n : Number) (half fill v u : ℕ) (i : n ≡ Number.Took v u) where
+  pub extended-low : v < half → ok v u ≡ ofExtended half fill n
+  extended-low h = sym (ap (ofExtended half fill) i ∙ rw (lt-true v half h))
+
+  pub extended-high : half ≤ v → ok (v + fill) u ≡ ofExtended half fill n
+  extended-high h = sym (ap (ofExtended half fill) i ∙ rw (lt-false v half h))
+
+  pub extended-fits : Below (2 ^ 64 - fill) n → Fits Mir.w64 (v + fill)
+  extended-fits b = let h : v < 2 ^ 64 - fill = subst (Below (2 ^ 64 - fill)) i b in record { fits = omega arith }
+
 module _ (w : Width) (s : List ℕ) where
   -- too few bytes
   pub cell-short : (e : Refusal) → e ≡ because 3 0 → length s < size w → bad e ≡ cell w 0 s
@@ -77,11 +106,22 @@ module _ (w : Width) (s : List ℕ) where
   cell-is n h e =
       sym (then-ok (int (size w)) _ 0 s (be 0 (take (size w) s)) (size w) (int-ok (size w) 0 s h) ∙ (λ i. ok (extend w (sym e i)) (add-zero (size w) i)))
 
-  pub cell-low : (n : ℕ) → size w ≤ length s → n ≡ be 0 (take (size w) s) → n < 2 ^ (bits w - 1) → ok n (size w) ≡ cell w 0 s
-  cell-low n h e l = ap (λ (c : ℕ). ok c (size w)) (sym (extend-low w n l)) ∙ cell-is n h e
+  -- a number below 2^bits, and its cell
+  module _ (s-bytes : (i : ℕ) → Fits Mir.w8 (getD s i 0)) (n : Number) (e : ofNumber n ≡ int (size w) 0 s) where
+    pub int-below : Below (2 ^ bits w) n
+    int-below = go n e
+      where
+        go : (n : Number) → ofNumber n ≡ int (size w) 0 s → Below (2 ^ bits w) n
+        go (Number.Took v u) e = let p = powers w in let h : v < 256 ^ size w = canon-int (size w) .law 0 s v u (bytes-of s s-bytes) (sym e) .fact in omega (arith, p .power)
+        go (Number.Refused c) e = tt
 
-  pub cell-high : (n : ℕ) → size w ≤ length s → n ≡ be 0 (take (size w) s) → 2 ^ (bits w - 1) ≤ n → n < 2 ^ bits w → ok (n + above w * 256 ^ size w) (size w) ≡ cell w 0 s
-  cell-high n h e l g = ap (λ (c : ℕ). ok c (size w)) (sym (extend-high w n l g)) ∙ cell-is n h e
+    pub cell-extended : (o : Res ℕ) → o ≡ ofExtended (2 ^ (bits w - 1)) (above w * 256 ^ size w) n → o ≡ cell w 0 s
+    unfolding cell give
+    cell-extended o d = d ∙ go n e int-below
+      where
+        go : (n : Number) → ofNumber n ≡ int (size w) 0 s → Below (2 ^ bits w) n → ofExtended (2 ^ (bits w - 1)) (above w * 256 ^ size w) n ≡ cell w 0 s
+        go (Number.Took v u) e h = sym (then-ok (int (size w)) _ 0 s v u (sym e) ∙ (λ i. ok (sym (extends w v h) i) (add-zero u i)))
+        go (Number.Refused c) e h = sym (then-bad (int (size w)) _ 0 s _ (sym e))
 
 -- all 64 bits are the cell
 pub cell-whole : (s : List ℕ) (n : ℕ) → 8 ≤ length s → n ≡ be 0 (take 8 s) → n < 2 ^ 64 → ok n 8 ≡ cell w64 0 s

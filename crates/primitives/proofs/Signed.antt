@@ -34,5 +34,6 @@ high c h k =
 pub back : (c : ℕ) (z : ℤ) → c < 2 ^ 64 → z ≡ signed Kafka.w64 c → toZ w64 (ofZ w64 z) ≡ signed Kafka.w64 c
 back c z h e = ap (λ (y : ℤ). toZ w64 (ofZ w64 y)) (e ∙ signed-is Kafka.w64 c) ∙ toZ-ofZ {w = w64} (sfits-toZ {w = w64} (record { fits = h })) ∙ sym (signed-is Kafka.w64 c)
 
+-- and is what the cell shows in an answer
 pub shown-took : (n : Number) (c k : ℕ) (z : ℤ) → n ≡ Number.Took c k → z ≡ signed Kafka.w64 c → c < 2 ^ 64 → ok (toZ w64 (ofZ w64 z)) k ≡ ofShown n
 shown-took n c k z i e h = ap (λ (y : ℤ). ok y k) (back c z h e) ∙ sym (ap ofShown i)

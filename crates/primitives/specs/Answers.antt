@@ -1,8 +1,12 @@
 -- What the answers of the calls say in the definition's words: the number and values of docs/RULES.md for each case of each enum.
-use Prim.Native.Nat.{ℕ}
+use Prim.Native.Nat.{_+_, _<_, _^_, ℕ}
+use lib.Dec.{ltb}
 use lib.IntN.{negsuc, pos, ℤ}
-use mathlib.Core.Bool.{Bool}
-use Rattle.layout.specs.Reading.{Res, bad, ok}
+use lib.ListN.{length}
+use mathlib.Core.Bool.{Bool, cond}
+use mathlib.Core.List.{List}
+use Rattle.layout.specs.Answers.{limited}
+use Rattle.layout.specs.Reading.{Res, bad, because, ok}
 use Rattle.layout.specs.Reading as Reading
 use Rattle.layout.specs.Primitives.{signed, unzigzag, w64}
 use Rattle.primitives.specs.declared.Flag.{Flag}
@@ -29,6 +33,27 @@ abbrev pub ofFlag : Flag → Res Bool
 ofFlag (Flag.Took v n) = ok v n
 ofFlag (Flag.Refused e) = bad (ofRefusal e)
 
+-- ---- what private functions promise of a number that was read
+
+-- 2 first, where the message s is over the size; else what its reader answers
+unfoldable pub unlessLong : {A : Type 0} → List ℕ → Res A → Res A
+unlessLong s o = limited (length s) o
+
+-- a number below m, if there is one
+abbrev pub Below : ℕ → Number → Type 0
+Below m (Number.Took v n) = v < m
+Below m (Number.Refused e) = Unit {0}
+
+-- from half on `fill` is added
+abbrev pub ofExtended : ℕ → ℕ → Number → Res ℕ
+ofExtended half fill (Number.Took v n) = ok (cond (ltb v half) v (v + fill)) n
+ofExtended half fill (Number.Refused e) = bad (ofRefusal e)
+
+-- 11: more than 32 bits
+abbrev pub ofNarrow : Number → Res ℕ
+ofNarrow (Number.Took v n) = cond (ltb v (2 ^ 32)) (ok v n) (bad (because 11 0))
+ofNarrow (Number.Refused e) = bad (ofRefusal e)
+
 -- the signed number that a cell shows, also in an answer
 abbrev pub shownOf : ℕ → ℤ
 shownOf c = signed w64 c
@@ -40,6 +65,11 @@ ofShown (Number.Refused e) = bad (ofRefusal e)
 -- the number that n carries by zigzag
 abbrev pub zigzagged : ℕ → ℤ
 zigzagged n = unzigzag n
+
+-- also in an answer
+abbrev pub ofCarried : Number → Res ℤ
+ofCarried (Number.Took v n) = ok (zigzagged v) n
+ofCarried (Number.Refused e) = bad (ofRefusal e)
 
 -- a version as a number that is not negative: below 0 it is above all versions that there are
 abbrev pub versionOf : ℤ → ℕ

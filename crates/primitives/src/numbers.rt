@@ -1,9 +1,9 @@
 // Numbers at the front of what is left of a message: each reader takes the rest behind the primitive before it, and its promise speaks of that part.
 ghost use mathlib.Core.Path.{_≡_};
-ghost use Prim.Native.Nat.{_<_, _≤_};
+ghost use Prim.Native.Nat.{_-_, _<_, _^_, _≤_};
 ghost use lib.ListN.{length, take};
 ghost use Rattle.layout.specs.Primitives.{be, cell, flag, int, unsigned, w8, w16, w32, w64};
-ghost use Rattle.primitives.specs.Answers.{ofFlag, ofNumber};
+ghost use Rattle.primitives.specs.Answers.{Below, ofExtended, ofFlag, ofNumber};
 use crate::BYTES_END;
 use crate::Flag;
 use crate::Number;
@@ -62,52 +62,53 @@ pub fn uint32(s: &[u8]) -> Number
     }
 }
 
-pub fn int8(s: &[u8]) -> Number
-    ensures { λ r. ⌜ ofNumber r ≡ cell w8 0 (now (s .entry)) ⌝ }
+// The cell of a number that is not negative: from half on it stands for a negative number, and the bits above its width are filled.
+fn extended(n: Number, half: u64, fill: u64) -> Number
+    requires { ⌜ Below (2 ^ 64 - fill) n ⌝ }
+    ensures { λ r. ⌜ ofNumber r ≡ ofExtended half fill n ⌝ }
+{
+    match n {
+        Number::Took { value, used } => {
+            if value < half {
+                return Number::Took { value, used };
+            }
+            Number::Took {
+                value: value + fill,
+                used,
+            }
+        }
+        Number::Refused(e) => Number::Refused(e),
+    }
+}
+
+fn uint8(s: &[u8]) -> Number
+    ensures { λ r. ⌜ ofNumber r ≡ int 1 0 (now (s .entry)) ⌝ }
 {
     if s.len() < 1 {
         return Number::Refused(at(BYTES_END, 0));
     }
-    let n = wide(s[0]);
-    if n < 128 {
-        return Number::Took { value: n, used: 1 };
-    }
     Number::Took {
-        value: n + 18446744073709551360,
+        value: wide(s[0]),
         used: 1,
     }
+}
+
+pub fn int8(s: &[u8]) -> Number
+    ensures { λ r. ⌜ ofNumber r ≡ cell w8 0 (now (s .entry)) ⌝ }
+{
+    extended(uint8(s), 128, 18446744073709551360)
 }
 
 pub fn int16(s: &[u8]) -> Number
     ensures { λ r. ⌜ ofNumber r ≡ cell w16 0 (now (s .entry)) ⌝ }
 {
-    if s.len() < 2 {
-        return Number::Refused(at(BYTES_END, 0));
-    }
-    let n = two(s);
-    if n < 32768 {
-        return Number::Took { value: n, used: 2 };
-    }
-    Number::Took {
-        value: n + 18446744073709486080,
-        used: 2,
-    }
+    extended(uint16(s), 32768, 18446744073709486080)
 }
 
 pub fn int32(s: &[u8]) -> Number
     ensures { λ r. ⌜ ofNumber r ≡ cell w32 0 (now (s .entry)) ⌝ }
 {
-    if s.len() < 4 {
-        return Number::Refused(at(BYTES_END, 0));
-    }
-    let n = four(s);
-    if n < 2147483648 {
-        return Number::Took { value: n, used: 4 };
-    }
-    Number::Took {
-        value: n + 18446744069414584320,
-        used: 4,
-    }
+    extended(uint32(s), 2147483648, 18446744069414584320)
 }
 
 pub fn int64(s: &[u8]) -> Number

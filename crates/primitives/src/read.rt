@@ -2,7 +2,7 @@
 ghost use mathlib.Core.Path.{_≡_};
 ghost use Rattle.layout.specs.Primitives.{cellOf, flag, integer, unsigned, varint, varlong, w8, w16, w32, w64};
 ghost use Rattle.layout.specs.Answers.{alone};
-ghost use Rattle.primitives.specs.Answers.{ofFlag, ofInteger, ofNumber, ofShown, shownOf, zigzagged};
+ghost use Rattle.primitives.specs.Answers.{ofCarried, ofFlag, ofInteger, ofNarrow, ofNumber, ofShown, shownOf, unlessLong, zigzagged};
 use crate::Flag;
 use crate::Integer;
 use crate::MOST;
@@ -23,11 +23,21 @@ fn signed(c: u64) -> i64
     }
 }
 
-// A cell's number in place of the cell.
-fn shown(n: Number) -> Integer
-    ensures { λ r. ⌜ ofInteger r ≡ ofShown n ⌝ }
+// What is answered of a number that was read: 2 goes first, where the message is over the size. To read before that is judged does no harm: no number has more than ten bytes.
+fn sized(msg: &[u8], n: Number) -> Number
+    ensures { λ r. ⌜ ofNumber r ≡ unlessLong (now (msg .entry)) (ofNumber n) ⌝ }
 {
-    match n {
+    if MOST < msg.len() {
+        return Number::Refused(at(TOO_LONG, 0));
+    }
+    n
+}
+
+// The same, with a cell's number in place of the cell.
+fn integer(msg: &[u8], n: Number) -> Integer
+    ensures { λ r. ⌜ ofInteger r ≡ unlessLong (now (msg .entry)) (ofShown n) ⌝ }
+{
+    match sized(msg, n) {
         Number::Took { value, used } => Integer::Took {
             value: signed(value),
             used,
@@ -39,37 +49,19 @@ fn shown(n: Number) -> Integer
 pub fn int8(msg: &[u8]) -> Integer
     ensures { λ r. ⌜ ofInteger r ≡ alone (integer w8) (now (msg .entry)) ⌝ }
 {
-    if MOST < msg.len() {
-        return Integer::Refused(at(TOO_LONG, 0));
-    }
-    shown(numbers::int8(msg))
+    integer(msg, numbers::int8(msg))
 }
 
 pub fn int16(msg: &[u8]) -> Integer
     ensures { λ r. ⌜ ofInteger r ≡ alone (integer w16) (now (msg .entry)) ⌝ }
 {
-    if MOST < msg.len() {
-        return Integer::Refused(at(TOO_LONG, 0));
-    }
-    shown(numbers::int16(msg))
+    integer(msg, numbers::int16(msg))
 }
 
 pub fn int32(msg: &[u8]) -> Integer
     ensures { λ r. ⌜ ofInteger r ≡ alone (integer w32) (now (msg .entry)) ⌝ }
 {
-    if MOST < msg.len() {
-        return Integer::Refused(at(TOO_LONG, 0));
-    }
-    shown(numbers::int32(msg))
-}
-
-pub fn int64(msg: &[u8]) -> Integer
-    ensures { λ r. ⌜ ofInteger r ≡ alone (integer w64) (now (msg .entry)) ⌝ }
-{
-    if MOST < msg.len() {
-        return Integer::Refused(at(TOO_LONG, 0));
-    }
-    shown(numbers::int64(msg))
+    integer(msg, numbers::int32(msg))
 }
 
 pub fn boolean(msg: &[u8]) -> Flag
@@ -84,10 +76,7 @@ pub fn boolean(msg: &[u8]) -> Flag
 pub fn unsigned_varint(msg: &[u8]) -> Number
     ensures { λ r. ⌜ ofNumber r ≡ alone unsigned (now (msg .entry)) ⌝ }
 {
-    if MOST < msg.len() {
-        return Number::Refused(at(TOO_LONG, 0));
-    }
-    numbers::unsigned_varint(msg)
+    sized(msg, numbers::unsigned_varint(msg))
 }
 
 // The cell of the number that n carries by zigzag.
@@ -100,38 +89,50 @@ fn unzigzag(n: u64) -> u64
     18446744073709551615 - n / 2
 }
 
-pub fn varlong(msg: &[u8]) -> Integer
-    ensures { λ r. ⌜ ofInteger r ≡ alone varlong (now (msg .entry)) ⌝ }
+// The same of a number that was read.
+fn carried(n: Number) -> Number
+    ensures { λ r. ⌜ ofShown r ≡ ofCarried n ⌝ }
 {
-    if MOST < msg.len() {
-        return Integer::Refused(at(TOO_LONG, 0));
-    }
-    match numbers::unsigned_varint(msg) {
-        Number::Took { value, used } => Integer::Took {
-            value: signed(unzigzag(value)),
+    match n {
+        Number::Took { value, used } => Number::Took {
+            value: unzigzag(value),
             used,
         },
-        Number::Refused(e) => Integer::Refused(e),
+        Number::Refused(e) => Number::Refused(e),
     }
 }
 
 // 32 bits: what is outside is refused once the whole varint is read.
+fn narrow(n: Number) -> Number
+    ensures { λ r. ⌜ ofNumber r ≡ ofNarrow n ⌝ }
+{
+    match n {
+        Number::Took { value, used } => {
+            if 4294967295 < value {
+                return Number::Refused(at(TOO_WIDE, 0));
+            }
+            Number::Took { value, used }
+        }
+        Number::Refused(e) => Number::Refused(e),
+    }
+}
+
 pub fn varint(msg: &[u8]) -> Integer
     ensures { λ r. ⌜ ofInteger r ≡ alone varint (now (msg .entry)) ⌝ }
 {
-    if MOST < msg.len() {
-        return Integer::Refused(at(TOO_LONG, 0));
-    }
-    match numbers::unsigned_varint(msg) {
-        Number::Took { value, used } => {
-            if 4294967295 < value {
-                return Integer::Refused(at(TOO_WIDE, 0));
-            }
-            Integer::Took {
-                value: signed(unzigzag(value)),
-                used,
-            }
-        }
-        Number::Refused(e) => Integer::Refused(e),
-    }
+    integer(msg, carried(narrow(numbers::unsigned_varint(msg))))
+}
+
+// ---- all 64 bits
+
+pub fn int64(msg: &[u8]) -> Integer
+    ensures { λ r. ⌜ ofInteger r ≡ alone (integer w64) (now (msg .entry)) ⌝ }
+{
+    integer(msg, numbers::int64(msg))
+}
+
+pub fn varlong(msg: &[u8]) -> Integer
+    ensures { λ r. ⌜ ofInteger r ≡ alone varlong (now (msg .entry)) ⌝ }
+{
+    integer(msg, carried(numbers::unsigned_varint(msg)))
 }

@@ -48,30 +48,6 @@ pub fn lowest(out: &mut [u8], cell: u64, k: usize) -> usize
     k
 }
 
-pub fn int8(out: &mut [u8], cell: u64) -> usize
-    ensures { λ r. ⌜ Put (bytes 1 cell) (now (out .entry)) r (now (out .exit)) ⌝ }
-{
-    lowest(out, cell, 1)
-}
-
-pub fn int16(out: &mut [u8], cell: u64) -> usize
-    ensures { λ r. ⌜ Put (bytes 2 cell) (now (out .entry)) r (now (out .exit)) ⌝ }
-{
-    lowest(out, cell, 2)
-}
-
-pub fn int32(out: &mut [u8], cell: u64) -> usize
-    ensures { λ r. ⌜ Put (bytes 4 cell) (now (out .entry)) r (now (out .exit)) ⌝ }
-{
-    lowest(out, cell, 4)
-}
-
-pub fn int64(out: &mut [u8], cell: u64) -> usize
-    ensures { λ r. ⌜ Put (bytes 8 cell) (now (out .entry)) r (now (out .exit)) ⌝ }
-{
-    lowest(out, cell, 8)
-}
-
 pub fn boolean(out: &mut [u8], value: bool) -> usize
     ensures { λ r. ⌜ Put (flagBytes value) (now (out .entry)) r (now (out .exit)) ⌝ }
 {
@@ -164,8 +140,8 @@ pub fn length(out: &mut [u8], form: Form, n: u64) -> usize
     ensures { λ r. ⌜ Put (lengthBytes (sizeOf form) n) (now (out .entry)) r (now (out .exit)) ⌝ }
 {
     match form {
-        Form::Int16 => int16(out, n),
-        Form::Int32 => int32(out, n),
+        Form::Int16 => lowest(out, n, 2),
+        Form::Int32 => lowest(out, n, 4),
         Form::Compact => compact_length(out, n),
     }
 }
@@ -175,8 +151,8 @@ pub fn null(out: &mut [u8], form: Form) -> usize
     ensures { λ r. ⌜ Put (nullBytes (sizeOf form)) (now (out .entry)) r (now (out .exit)) ⌝ }
 {
     match form {
-        Form::Int16 => int16(out, 65535),
-        Form::Int32 => int32(out, 4294967295),
+        Form::Int16 => lowest(out, 65535, 2),
+        Form::Int32 => lowest(out, 4294967295, 4),
         Form::Compact => unsigned_varint(out, 0),
     }
 }

@@ -91,12 +91,6 @@ pub fn int32(out: &mut [u8], value: i64) -> Written
     integer(out, cell(value), 4, 2147483648)
 }
 
-pub fn int64(out: &mut [u8], value: i64) -> Written
-    ensures { λ r. ⌜ replied r (now (out .exit)) ≡ writeAlone (unless (holds w64 (cellOf value)) 11) (integerBytes w64 value) (now (out .entry)) ⌝ }
-{
-    integer(out, cell(value), 8, 9223372036854775808)
-}
-
 pub fn boolean(out: &mut [u8], value: bool) -> Written
     ensures { λ r. ⌜ replied r (now (out .exit)) ≡ writeAlone 0 (flagBytes value) (now (out .entry)) ⌝ }
 {
@@ -117,6 +111,14 @@ pub fn varint(out: &mut [u8], value: i64) -> Written
         return unsigned_varint(out, n);
     }
     Written::Refused(at(TOO_WIDE, 0))
+}
+
+// ---- all 64 bits
+
+pub fn int64(out: &mut [u8], value: i64) -> Written
+    ensures { λ r. ⌜ replied r (now (out .exit)) ≡ writeAlone (unless (holds w64 (cellOf value)) 11) (integerBytes w64 value) (now (out .entry)) ⌝ }
+{
+    integer(out, cell(value), 8, 9223372036854775808)
 }
 
 pub fn varlong(out: &mut [u8], value: i64) -> Written

@@ -1,3 +1,4 @@
+-- Each way out is a law over the bytes behind the first.
 use borrow.Author.Needs.{needs}
 use Rattle.utf8.proofs.Rest.{bad-2, bad-3, cut, whole-3}
 use Rattle.utf8.proofs.three.Statement.{statement}
@@ -28,24 +29,13 @@ between-requires-2 : tie.Need-between-requires-2
 between-requires-2 c κs = search needs
 
 returns-2 : tie.Need-returns-2
-returns-2 c =
-    let d = c .before .before .before in
-    let e = d .before .before .before in
-    let z = e .before .before in
-    whole-3 (z .args .s .now) (z .args .at) _ _ (d .before .between .ensures) _ _ (c .before .between2 .ensures) (d .if2 .taken) (e .if1 .left) (c .if3 .taken)
+returns-2 c = search (needs, whole-3)
 
 returns-3 : tie.Need-returns-3
-returns-3 c =
-    let d = c .before .before .before in
-    let e = d .before .before .before in
-    let z = e .before .before in
-    bad-3 (z .args .s .now) (z .args .at) _ _ (d .before .between .ensures) _ _ (c .before .between2 .ensures) (d .if2 .taken) _ (e .if1 .left) (c .if3 .left)
+returns-3 c = search (needs, bad-3)
 
 returns-4 : tie.Need-returns-4
-returns-4 c =
-    let d = c .before .before .before in
-    let z = d .before .before in
-    bad-2 (z .args .s .now) (z .args .at) _ _ (c .before .between .ensures) _ (d .if1 .left) (c .if2 .left)
+returns-4 c = search (needs, bad-2)
 
 pub three-spec : {M : Type 1} → statement M
 three-spec =

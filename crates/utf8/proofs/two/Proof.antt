@@ -1,3 +1,4 @@
+-- Each way out is a law over the bytes behind the first.
 use borrow.Author.Needs.{needs}
 use Rattle.utf8.proofs.Rest.{bad-2, cut, whole-2}
 use Rattle.utf8.proofs.two.Statement.{statement}
@@ -19,16 +20,10 @@ between-requires : tie.Need-between-requires
 between-requires c κs = search needs
 
 returns-2 : tie.Need-returns-2
-returns-2 c =
-    let d = c .before .before .before in
-    let z = d .before .before in
-    whole-2 (z .args .s .now) (z .args .at) _ _ (c .before .between .ensures) (d .if1 .left) (c .if2 .taken)
+returns-2 c = search (needs, whole-2)
 
 returns-3 : tie.Need-returns-3
-returns-3 c =
-    let d = c .before .before .before in
-    let z = d .before .before in
-    bad-2 (z .args .s .now) (z .args .at) _ _ (c .before .between .ensures) _ (d .if1 .left) (c .if2 .left)
+returns-3 c = search (needs, bad-2)
 
 pub two-spec : {M : Type 1} → statement M
 two-spec =

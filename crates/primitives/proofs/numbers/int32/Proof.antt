@@ -1,26 +1,18 @@
+-- The bytes as a number that is not negative, and its cell.
 use Rattle.layout.specs.Primitives.{w32}
-use Rattle.primitives.proofs.Cells.{cell-short, cell-low, cell-high}
+use Rattle.primitives.proofs.Cells.{cell-extended, int-below}
 use borrow.Author.Needs.{needs}
 use Rattle.primitives.proofs.numbers.int32.Statement.{statement}
 use Rattle.primitives.proofs.numbers.int32.Tie as tie
 
-at-requires : tie.Need-at-requires
-at-requires c κs = search needs
+uint32-requires : tie.Need-uint32-requires
+uint32-requires c κs = search needs
+
+extended-requires : tie.Need-extended-requires
+extended-requires c κs = int-below w32 _ (c .before .shared-slice-known .given) (c .uint32 .result) (c .uint32 .ensures)
 
 returns : tie.Need-returns
-returns c = cell-short w32 _ _ (c .at .ensures) (search needs)
-
-four-requires : tie.Need-four-requires
-four-requires c κs = search needs
-
-returns-2 : tie.Need-returns-2
-returns-2 c = cell-low w32 _ _ (search needs) (c .before .four .ensures .0) (search needs)
-
-add-t6 : tie.Need-add-t6
-add-t6 c = search needs
-
-returns-3 : tie.Need-returns-3
-returns-3 c = cell-high w32 _ (c .before .four .result) (search needs) (c .before .four .ensures .0) (search needs) (search needs)
+returns c = cell-extended w32 _ (c .before .before .shared-slice-known .given) (c .before .uint32 .result) (c .before .uint32 .ensures) _ (c .extended .ensures)
 
 pub int32-spec : {M : Type 1} → statement M
-int32-spec = tie.close (tie.spec at-requires returns four-requires returns-2 add-t6 returns-3)
+int32-spec = tie.close (tie.spec uint32-requires extended-requires returns)

@@ -6,14 +6,14 @@ use Rattle.writers.proofs.put.null.Tie as tie
 enum-told : tie.Need-enum-told
 enum-told c = search needs
 
-int16-requires : tie.Need-int16-requires
-int16-requires c κs = search needs
+lowest-requires : tie.Need-lowest-requires
+lowest-requires c κs = search needs
 
 enum-told-2 : tie.Need-enum-told-2
 enum-told-2 c = search needs
 
-int32-requires : tie.Need-int32-requires
-int32-requires c κs = search needs
+lowest-requires-2 : tie.Need-lowest-requires-2
+lowest-requires-2 c κs = search needs
 
 enum-told-3 : tie.Need-enum-told-3
 enum-told-3 c = search needs
@@ -26,14 +26,14 @@ same-length c = search needs
 
 returns : tie.Need-returns
 unfolding nullBytes
-returns c = rw (c .before .before .before .before .enum-told .given .1) (c .before .before .int16 .ensures)
+returns c = rw (c .before .before .before .before .enum-told .given .1) (c .before .before .lowest .ensures)
 
 same-length-2 : tie.Need-same-length-2
 same-length-2 c = search needs
 
 returns-2 : tie.Need-returns-2
 unfolding nullBytes
-returns-2 c = rw (c .before .before .before .before .enum-told2 .given .1) (c .before .before .int32 .ensures)
+returns-2 c = rw (c .before .before .before .before .enum-told2 .given .1) (c .before .before .lowest2 .ensures)
 
 same-length-3 : tie.Need-same-length-3
 same-length-3 c = search needs
@@ -47,9 +47,9 @@ null-spec =
     tie.close
     (tie.spec
     enum-told
-    int16-requires
+    lowest-requires
     enum-told-2
-    int32-requires
+    lowest-requires-2
     enum-told-3
     unsigned-varint-requires
     same-length
