@@ -108,16 +108,16 @@ module _ (w : Width) (s : List ℕ) where
 
   -- a number below 2^bits, and its cell
   module _ (s-bytes : (i : ℕ) → Fits Mir.w8 (getD s i 0)) (n : Number) (e : ofNumber n ≡ int (size w) 0 s) where
-    pub int-below : Below (2 ^ bits w) n
-    int-below = go n e
+    pub int-below : (m : ℕ) → 2 ^ bits w ≤ m → Below m n
+    int-below m l = go n e
       where
-        go : (n : Number) → ofNumber n ≡ int (size w) 0 s → Below (2 ^ bits w) n
+        go : (n : Number) → ofNumber n ≡ int (size w) 0 s → Below m n
         go (Number.Took v u) e = let p = powers w in let h : v < 256 ^ size w = canon-int (size w) .law 0 s v u (bytes-of s s-bytes) (sym e) .fact in omega (arith, p .power)
         go (Number.Refused c) e = tt
 
     pub cell-extended : (o : Res ℕ) → o ≡ ofExtended (2 ^ (bits w - 1)) (above w * 256 ^ size w) n → o ≡ cell w 0 s
     unfolding cell give
-    cell-extended o d = d ∙ go n e int-below
+    cell-extended o d = d ∙ go n e (int-below (2 ^ bits w) (omega arith))
       where
         go : (n : Number) → ofNumber n ≡ int (size w) 0 s → Below (2 ^ bits w) n → ofExtended (2 ^ (bits w - 1)) (above w * 256 ^ size w) n ≡ cell w 0 s
         go (Number.Took v u) e h = sym (then-ok (int (size w)) _ 0 s v u (sym e) ∙ (λ i. ok (sym (extends w v h) i) (add-zero u i)))

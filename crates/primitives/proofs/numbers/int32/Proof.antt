@@ -1,4 +1,5 @@
 -- The bytes as a number that is not negative, and its cell.
+use native.Mathlib.Omega.{arith}
 use Rattle.layout.specs.Primitives.{w32}
 use Rattle.primitives.proofs.Cells.{cell-extended, int-below}
 use borrow.Author.Needs.{needs}
@@ -9,7 +10,7 @@ uint32-requires : tie.Need-uint32-requires
 uint32-requires c κs = search needs
 
 extended-requires : tie.Need-extended-requires
-extended-requires c κs = int-below w32 _ (c .before .shared-slice-known .given) (c .uint32 .result) (c .uint32 .ensures)
+extended-requires c κs = int-below w32 _ (c .before .shared-slice-known .given) (c .uint32 .result) (c .uint32 .ensures) _ (omega arith)
 
 returns : tie.Need-returns
 returns c = cell-extended w32 _ (c .before .before .shared-slice-known .given) (c .before .uint32 .result) (c .before .uint32 .ensures) _ (c .extended .ensures)
