@@ -5,8 +5,8 @@ use mathlib.Core.Path.{_∙_, _≡_, ap, refl, sym}
 use Prim.Native.Nat.{ℕ}
 use lib.ListN.{drop}
 use Rattle.layout.specs.Reading.{Refusal, Res, bad, give, loop, more, ok, then}
-use Rattle.layout.specs.Primitives.{cell, keeps, minus, unsigned, w16, w32}
-use Rattle.layout.specs.Rows.{Shape, array, items, standing, stands}
+use Rattle.layout.specs.Primitives.{cell, keeps, w16, w32}
+use Rattle.layout.specs.Rows.{Shape, array, items, stands}
 use Rattle.layout.specs.Read.{readBasic}
 use Rattle.layout.specs.Tables.{absentCells, cells, readRows, width}
 use Rattle.layout.proofs.Maps.{then-assoc}
@@ -14,22 +14,20 @@ use Rattle.primitives.specs.Answers.{ofRefusal}
 use Rattle.primitives.specs.declared.Refusal as Code
 use Rattle.places.specs.Moved.{arrayItems}
 use Rattle.rows.specs.Store.{State, Tab, add, own, put, store, tab}
-use Rattle.rows.specs.Walk.{Place, Runs, on, walk}
+use Rattle.rows.specs.Walk.{Places, Runs, on, walk}
 use Rattle.rows.proofs.Arrays.{items-no, items-no-count, items-took}
 use Rattle.rows.proofs.Front.{then-give}
 use Rattle.rows.proofs.Steps.{give-took, then-no, then-took}
-use Rattle.tags.specs.Answers.{inTable, inTableIs, tagShape}
-use Rattle.tags.specs.declared.Tags.{Tags}
-use Rattle.tags.proofs.Count.{tags-no, tags-no-count, tags-took}
+use Rattle.tags.specs.Answers as Tags
+use Rattle.tags.specs.declared.Walked.{Walked}
 use Rattle.api_versions.specs.Answers.{ofThrottle}
-use Rattle.api_versions.specs.Shapes.{bodyShape, keyShape, tagsShape, tailShape}
-use Rattle.api_versions.specs.Walks.{Before, behindItems, finish, inTables, ofTail, ofThrottled, ofWalked, rowsIs, throttle}
+use Rattle.api_versions.specs.Shapes.{bodyShape, keyShape, tagsIf, tailShape}
+use Rattle.api_versions.specs.Walks.{Before, behindItems, finish, inTables, ofMeasured, ofTail, ofThrottled, rowsIs, throttle}
 use Rattle.api_versions.specs.declared.Throttle.{Throttle}
 use Rattle.api_versions.specs.declared.response.Rows.{Rows}
 use Rattle.api_versions.specs.declared.response.Tail.{Tail}
 use Rattle.api_versions.specs.declared.response.Throttled.{Throttled}
-use Rattle.api_versions.specs.declared.response.Walked.{Walked}
-use Rattle.api_versions.proofs.ItemRows.{tags-lacking, tags-standing}
+use Rattle.api_versions.specs.declared.response.Measured.{Measured}
 
 -- ---- the throttle time
 
@@ -52,64 +50,54 @@ module _ (t : Bool) (s : List ℕ) (p : ℕ) where
 
 -- ---- the tail
 
-tail-is : (w t f : Bool) (st : State) (p : ℕ) (s : List ℕ) → then (throttle t) (λ cs. walk w (tagsShape f) 0 (add 0 cs st)) p s ≡ walk w (tailShape t f) 0 st p s
+tail-is : (w t f : Bool) (st : State) (p : ℕ) (s : List ℕ) → then (throttle t) (λ cs. walk w (tagsIf f 2) 0 (add 0 cs st)) p s ≡ walk w (tailShape t f) 0 st p s
 unfolding throttle tailShape stands readRows readBasic cells absentCells width
 tail-is w true f st p s =
-    sym (then-assoc (cell w32) (λ n. give (2 ∷ n ∷ [])) (λ cs. walk w (tagsShape f) 0 (add 0 cs st)) p s)
-    ∙ (λ i. then (cell w32) (λ n q u. then-give (2 ∷ n ∷ []) (λ cs. walk w (tagsShape f) 0 (add 0 cs st)) q u i) p s)
-tail-is w false f st p s = then-give (0 ∷ 0 ∷ []) (λ cs. walk w (tagsShape f) 0 (add 0 cs st)) p s
+    sym (then-assoc (cell w32) (λ n. give (2 ∷ n ∷ [])) (λ cs. walk w (tagsIf f 2) 0 (add 0 cs st)) p s)
+    ∙ (λ i. then (cell w32) (λ n q u. then-give (2 ∷ n ∷ []) (λ cs. walk w (tagsIf f 2) 0 (add 0 cs st)) q u i) p s)
+tail-is w false f st p s = then-give (0 ∷ 0 ∷ []) (λ cs. walk w (tagsIf f 2) 0 (add 0 cs st)) p s
 
--- the table of tags behind the own row and the items
-behind : List ℕ → Tab → Place
+-- the own row and the table of tags, around that of the items
+around : Tab → Places
 unfolding add
-behind cs x = record { h = λ y. own cs ∷ x ∷ y ∷ []; o = 2; law = λ y ds. refl }
+around x = record { h = λ y z. y ∷ x ∷ z ∷ []; o = 0; t = 2; row-law = λ y z ds. refl; items-law = λ y z ds. refl }
 
 module _ (t f : Bool) (s : List ℕ) (p : ℕ) (ts : List ℕ) (m : ℕ) (r : Throttled) (h : ofThrottled r ≡ on (throttle t) s p) where
-  on-tail : (e : Before) → on (then (throttle t) (λ cs. walk (e .whole) (tagsShape f) 0 (add 0 cs (behindItems ts m e)))) s p ≡ on (walk (e .whole) (tailShape t f) 0 (behindItems ts m e)) s p
+  on-tail : (e : Before) → on (then (throttle t) (λ cs. walk (e .whole) (tagsIf f 2) 0 (add 0 cs (behindItems ts m e)))) s p ≡ on (walk (e .whole) (tailShape t f) 0 (behindItems ts m e)) s p
   unfolding on
   on-tail e = ap (more p) (tail-is (e .whole) t f (behindItems ts m e) p (drop p s))
 
   pub tail-no : (c : Code.Refusal) → r ≡ Throttled.Refused c → Runs (λ e. walk (e .whole) (tailShape t f) 0) s p (behindItems ts m) (λ e. bad (ofRefusal c))
   tail-no c d = record { law = λ e. then-no (throttle t) _ s p (ap ofThrottled (sym d) ∙ h) ∙ on-tail e }
 
-  module _ (x : Throttle) (n : ℕ) (d : r ≡ Throttled.Took x n) where
-    abbrev timed : Before → State
-    timed e = add 0 (ofThrottle x) (behindItems ts m e)
+  module _ (x : Throttle) (n : ℕ) (d : r ≡ Throttled.Took x n) (ts′ : List ℕ) (z : Walked) (l : Runs (λ e. walk (e .0) (tagsIf f (e .1 .t)) (e .1 .o)) s n (Tags.inTables ts m) (Tags.inTablesIs ts′ z)) where
+    -- the own row once the throttle time is there
+    abbrev timed : Before → Tab
+    timed e = store (own (e .error ∷ e .count ∷ [])) (ofThrottle x)
 
-    from-throttle : (e : Before) (z : Res State) → z ≡ on (walk (e .whole) (tagsShape f) 0 (timed e)) s n → z ≡ on (walk (e .whole) (tailShape t f) 0 (behindItems ts m e)) s p
-    from-throttle e z g = then-took (throttle t) _ s p (ap ofThrottled (sym d) ∙ h) g ∙ on-tail e
+    from-throttle : (e : Before) → Tags.inTablesIs ts′ z (e .whole, around (e .items), timed e) ≡ on (walk (e .whole) (tailShape t f) 0 (behindItems ts m e)) s p
+    unfolding around add
+    from-throttle e = then-took (throttle t) _ s p (ap ofThrottled (sym d) ∙ h) (l .law (e .whole, around (e .items), timed e)) ∙ on-tail e
 
-    abbrev row : ℕ → Before → List ℕ
-    row k e = e .error ∷ e .count ∷ (ofThrottle x ++ (k ∷ []))
+    pub tail-no-tags : (c : Code.Refusal) → z ≡ Walked.Refused c → Runs (λ e. walk (e .whole) (tailShape t f) 0) s p (behindItems ts m) (λ e. bad (ofRefusal c))
+    tail-no-tags c j = record { law = λ e. ap (λ (y : Walked). Tags.inTablesIs ts′ y (e .whole, around (e .items), timed e)) (sym j) ∙ from-throttle e }
 
-    rowed : (k : ℕ) (e : Before) → add 0 (k ∷ []) (timed e) ≡ own (row k e) ∷ e .items ∷ tab ts m ∷ []
-    unfolding add store put
+    rowed : (k : ℕ) (e : Before) → own (e .error ∷ e .count ∷ (ofThrottle x ++ (k ∷ []))) ≡ store (timed e) (k ∷ [])
+    unfolding store put
     rowed k e = go x
       where
-        go : (y : Throttle) → add 0 (k ∷ []) (add 0 (ofThrottle y) (behindItems ts m e)) ≡ own (e .error ∷ e .count ∷ (ofThrottle y ++ (k ∷ []))) ∷ e .items ∷ tab ts m ∷ []
+        go : (y : Throttle) → own (e .error ∷ e .count ∷ (ofThrottle y ++ (k ∷ []))) ≡ store (store (own (e .error ∷ e .count ∷ [])) (ofThrottle y)) (k ∷ [])
         go Throttle.Absent = refl
         go (Throttle.Present v) = refl
 
-    pub tail-plain : f ≡ false → Runs (λ e. walk (e .whole) (tailShape t f) 0) s p (behindItems ts m) (ofTail ts (Tail.Took x minus n m))
-    tail-plain y = record { law = λ e. from-throttle e (ofTail ts (Tail.Took x minus n m) e) (ap (λ (u : State). ok u n) (sym (rowed minus e)) ∙ tags-lacking (e .whole) f 0 (timed e) s n y) }
-
-    module _ (y : f ≡ true) where
-      pub tail-no-count : (c : Refusal) → bad c ≡ on unsigned s n → Runs (λ e. walk (e .whole) (tailShape t f) 0) s p (behindItems ts m) (λ e. bad c)
-      unfolding tagsShape standing stands
-      tail-no-count c g = record { law = λ e. from-throttle e (bad c) (tags-standing f y (e .whole) 0 (timed e) s n (tags-no-count (e .whole) 0 (timed e) s n 2 c g)) }
-
-      module _ (k q : ℕ) (g : ok k q ≡ on unsigned s n) (ts′ : List ℕ) (z : Tags) (l : Runs (λ e. loop k (walk (e .0) tagShape (e .1 .o))) s q (inTable ts m) (inTableIs ts′ z)) where
-        at-behind : (e : Before) → add 0 (k ∷ []) (timed e) ≡ behind (row k e) (e .items) .h (tab ts m)
-        unfolding behind
-        at-behind e = rowed k e
-
-        pub tail-no-tags : (c : Code.Refusal) → z ≡ Tags.Refused c → Runs (λ e. walk (e .whole) (tailShape t f) 0) s p (behindItems ts m) (λ e. bad (ofRefusal c))
-        unfolding behind tagsShape standing stands
-        tail-no-tags c j = record { law = λ e. from-throttle e (bad (ofRefusal c)) (tags-standing f y (e .whole) 0 (timed e) s n (tags-no (e .whole) 0 (timed e) s n k q g (behind (row k e) (e .items)) ts m (at-behind e) ts′ z l c j)) }
-
-        pub tail-took : (u v : ℕ) → z ≡ Tags.Took u v → Runs (λ e. walk (e .whole) (tailShape t f) 0) s p (behindItems ts m) (ofTail ts′ (Tail.Took x k u v))
-        unfolding behind tagsShape standing stands
-        tail-took u v j = record { law = λ e. from-throttle e (ofTail ts′ (Tail.Took x k u v) e) (tags-standing f y (e .whole) 0 (timed e) s n (tags-took (e .whole) 0 (timed e) s n k q g (behind (row k e) (e .items)) ts m (at-behind e) ts′ z l u v j)) }
+    pub tail-took : (k u v : ℕ) → z ≡ Walked.Took k u v → Runs (λ e. walk (e .whole) (tailShape t f) 0) s p (behindItems ts m) (ofTail ts′ (Tail.Took x k u v))
+    unfolding around
+    tail-took k u v j = record {
+      law = λ e.
+          (λ i. ok (rowed k e i ∷ e .items ∷ tab ts′ v ∷ []) u)
+          ∙ ap (λ (y : Walked). Tags.inTablesIs ts′ y (e .whole, around (e .items), timed e)) (sym j)
+          ∙ from-throttle e;
+    }
 
 -- ---- the body
 
@@ -150,16 +138,16 @@ module _ (t f w : Bool) (s is ts : List ℕ) where
       items-bad c e = from-error (items-no w (items f) (no-null f) 1 (keyShape f) (tailShape t f) 0 after-error s p k q g (ofRefusal c) (ap (λ (y : Rows). rowsIs is′ ts′ y (w, x ∷ k ∷ [])) (sym e) ∙ looped))
 
       pub body-is : (n i m : ℕ) → r ≡ Rows.Took n i m → (ts″ : List ℕ) (z : Tail) → Runs (λ e. walk (e .whole) (tailShape t f) 0) s n (behindItems ts′ m) (ofTail ts″ z) →
-          (b : Walked) → b ≡ finish x k i z → ofWalked is′ ts″ b ≡ on (walk w (bodyShape t f) 0 start) s 0
+          (b : Measured) → b ≡ finish x k i z → ofMeasured is′ ts″ b ≡ on (walk w (bodyShape t f) 0 start) s 0
       unfolding arrayItems
       body-is n i m e ts″ z l b v =
-          ap (ofWalked is′ ts″) v
+          ap (ofMeasured is′ ts″) v
           ∙ said z
           ∙ from-error (items-took w (items f) (no-null f) 1 (keyShape f) (tailShape t f) 0 after-error s p k q g _ n _ (ap (λ (y : Rows). rowsIs is′ ts′ y (w, x ∷ k ∷ [])) (sym e) ∙ looped) (l .law before))
         where
           before : Before
           before = record { whole = w; error = x; count = k; items = tab is′ i }
 
-          said : (z : Tail) → ofWalked is′ ts″ (finish x k i z) ≡ ofTail ts″ z before
+          said : (z : Tail) → ofMeasured is′ ts″ (finish x k i z) ≡ ofTail ts″ z before
           said (Tail.Took h j u v) = refl
           said (Tail.Refused c) = refl

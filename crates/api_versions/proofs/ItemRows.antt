@@ -1,25 +1,25 @@
 -- An item into the tables: each way out of the walk over it.
 use mathlib.Core.Bool.{Bool, false, true}
 use mathlib.Core.List.{List, [], _∷_}
-use mathlib.Core.Path.{_∙_, _≡_, ap, refl, sym}
+use mathlib.Core.Path.{_∙_, _≡_, ap, refl, subst, sym}
 use Prim.Native.Nat.{ℕ}
-use Rattle.layout.specs.Reading.{Reader, Refusal, Res, bad, loop, ok}
-use Rattle.layout.specs.Primitives.{cell, minus, unsigned, w16}
+use Rattle.layout.specs.Reading.{Reader, Refusal, Res, bad, ok}
+use Rattle.layout.specs.Primitives.{cell, minus, w16}
 use Rattle.layout.specs.Rows.{Shape, Value, end, field, number, standing, stands}
 use Rattle.layout.specs.Read.{byPlace, read, readBasic}
 use Rattle.layout.specs.Tables.{Span, cells, readRows}
 use Rattle.layout.proofs.Contents.{rowCells}
 use Rattle.primitives.specs.Answers.{ofRefusal}
 use Rattle.primitives.specs.declared.Refusal as Code
-use Rattle.rows.specs.Store.{State, add, own, store, tab}
-use Rattle.rows.specs.Walk.{Place, Runs, on, walk}
+use Rattle.rows.specs.Store.{State, Tab, add, own, store, tab}
+use Rattle.rows.specs.Walk.{Places, Runs, on, walk}
 use Rattle.rows.proofs.Arrays.{row-end}
-use Rattle.rows.proofs.Front.{field-no, field-took, fields-end, front-no, front-took}
-use Rattle.rows.proofs.Stores.{add-two}
-use Rattle.tags.specs.Answers.{inTable, inTableIs, tagShape}
-use Rattle.tags.specs.declared.Tags.{Tags}
-use Rattle.tags.proofs.Count.{tags-no, tags-no-count, tags-took}
-use Rattle.api_versions.specs.Shapes.{keyFront, keyShape, tagsShape}
+use Rattle.rows.proofs.Front.{front-no, front-took, reads-end, reads-no, reads-took}
+use Rattle.rows.proofs.Stores.{store-append}
+use Rattle.tags.specs.Answers as Tags
+use Rattle.tags.specs.Answers.{tagsShape}
+use Rattle.tags.specs.declared.Walked.{Walked}
+use Rattle.api_versions.specs.Shapes.{keyFront, keyShape, tagsIf}
 use Rattle.api_versions.specs.Walks.{inTables, ofKey, rowsIs}
 use Rattle.api_versions.specs.declared.response.Key.{Key}
 use Rattle.api_versions.specs.declared.response.Rows.{Rows}
@@ -35,44 +35,52 @@ module _ (s : List ℕ) (p : ℕ) where
 
   pub key-no : (c : Refusal) → bad c ≡ on (cell w16) s p → bad c ≡ on (read (byPlace false) keyFront) s p
   unfolding readBasic
-  key-no c e = field-no false (number w16) two s p c e
+  key-no c e = reads-no false (number w16) two s p c e
 
   module _ (a q : ℕ) (d : ok a q ≡ on (cell w16) s p) where
     pub min-no : (c : Refusal) → bad c ≡ on (cell w16) s q → bad c ≡ on (read (byPlace false) keyFront) s p
     unfolding readBasic
-    min-no c e = field-took false (number w16) two s p a q d (bad c) (field-no false (number w16) one s q c e)
+    min-no c e = reads-took false (number w16) two s p a q d (bad c) (reads-no false (number w16) one s q c e)
 
     module _ (b u : ℕ) (g : ok b u ≡ on (cell w16) s q) where
       pub max-no : (c : Refusal) → bad c ≡ on (cell w16) s u → bad c ≡ on (read (byPlace false) keyFront) s p
       unfolding readBasic
-      max-no c e = field-took false (number w16) two s p a q d (bad c) (field-took false (number w16) one s q b u g (bad c) (field-no false (number w16) end s u c e))
+      max-no c e = reads-took false (number w16) two s p a q d (bad c) (reads-took false (number w16) one s q b u g (bad c) (reads-no false (number w16) end s u c e))
 
       pub key-took : (c n : ℕ) → ok c n ≡ on (cell w16) s u → ok (a, (b, (c, tt))) n ≡ on (read (byPlace false) keyFront) s p
       unfolding readBasic
       key-took c n e =
-          field-took false (number w16) two s p a q d (ok (b, (c, tt)) n)
-          (field-took false (number w16) one s q b u g (ok (c, tt) n) (field-took false (number w16) end s u c n e (ok tt n) (fields-end false s n)))
+          reads-took false (number w16) two s p a q d (ok (b, (c, tt)) n)
+          (reads-took false (number w16) one s q b u g (ok (c, tt) n) (reads-took false (number w16) end s u c n e (ok tt n) (reads-end false s n)))
 
 -- numbers are read alike in a whole read
 any-whole : (w : Bool) → read (byPlace false) keyFront ≡ read (byPlace w) keyFront
 unfolding read readBasic
 any-whole w = refl
 
--- ---- tags that the version lacks, or has
+-- ---- tags, where the version has them
 
-pub tags-lacking : (w f : Bool) (o : ℕ) (st : State) (s : List ℕ) (p : ℕ) → f ≡ false → ok (add o (minus ∷ []) st) p ≡ on (walk w (tagsShape f) o st) s p
-unfolding tagsShape standing readRows
-tags-lacking w f o st s p e = row-end w o (add o (minus ∷ []) st) s p ∙ ap (λ (b : Bool). on (walk w (tagsShape b) o st) s p) (sym e)
+module _ (f : Bool) (s : List ℕ) (p : ℕ) (l : List ℕ) (k : ℕ) where
+  of-flag : (b : Bool) → f ≡ b → (g : Bool × Places × Tab → Res State) → Runs (λ e. walk (e .0) (tagsIf b (e .1 .t)) (e .1 .o)) s p (Tags.inTables l k) g → Runs (λ e. walk (e .0) (tagsIf f (e .1 .t)) (e .1 .o)) s p (Tags.inTables l k) g
+  of-flag b e g h = subst (λ (x : Bool). Runs (λ e. walk (e .0) (tagsIf x (e .1 .t)) (e .1 .o)) s p (Tags.inTables l k) g) (sym e) h
 
-pub tags-standing : (f : Bool) → f ≡ true → (w : Bool) (o : ℕ) (st : State) (s : List ℕ) (p : ℕ) {z : Res State} → z ≡ on (walk w (tagsShape true) o st) s p → z ≡ on (walk w (tagsShape f) o st) s p
-tags-standing f e w o st s p d = d ∙ ap (λ (b : Bool). on (walk w (tagsShape b) o st) s p) (sym e)
+  pub tags-there : f ≡ true → (l′ : List ℕ) (r : Walked) → Runs (λ e. walk (e .0) (tagsShape (e .1 .t)) (e .1 .o)) s p (Tags.inTables l k) (Tags.inTablesIs l′ r) →
+      Runs (λ e. walk (e .0) (tagsIf f (e .1 .t)) (e .1 .o)) s p (Tags.inTables l k) (Tags.inTablesIs l′ r)
+  unfolding tagsIf standing stands
+  tags-there e l′ r h = of-flag true e (Tags.inTablesIs l′ r) (record { law = λ e. h .law e })
+
+  pub tags-lacking : f ≡ false → Runs (λ e. walk (e .0) (tagsIf f (e .1 .t)) (e .1 .o)) s p (Tags.inTables l k) (Tags.inTablesIs l (Walked.Took minus p k))
+  unfolding tagsIf standing readRows
+  tags-lacking e = of-flag false e (Tags.inTablesIs l (Walked.Took minus p k)) (record {
+    law = λ e. ap (λ (u : State). ok u p) (sym (e .1 .row-law (e .2) (tab l k) (minus ∷ []))) ∙ row-end (e .0) (e .1 .o) (add (e .1 .o) (minus ∷ []) (Tags.inTables l k e)) s p;
+  })
 
 -- ---- the item
 
--- the table of tags behind the own row and the items
-behind : List ℕ → List ℕ → ℕ → Place
+-- the items' table and that of their tags, behind the own row
+between : List ℕ → Places
 unfolding add
-behind cs is i = record { h = λ x. own cs ∷ tab is i ∷ x ∷ []; o = 2; law = λ x ds. refl }
+between cs = record { h = λ x y. own cs ∷ x ∷ y ∷ []; o = 1; t = 2; row-law = λ x y ds. refl; items-law = λ x y ds. refl }
 
 module _ (f : Bool) (s : List ℕ) (p : ℕ) (is : List ℕ) (i : ℕ) (ts : List ℕ) (t : ℕ) (r : Key) (h : ofKey r ≡ on (read (byPlace false) keyFront) s p) where
   here-is : (w : Bool) → ofKey r ≡ on (read (byPlace w) keyFront) s p
@@ -80,38 +88,25 @@ module _ (f : Bool) (s : List ℕ) (p : ℕ) (is : List ℕ) (i : ℕ) (ts : Lis
 
   pub item-no : (c : Code.Refusal) → r ≡ Key.Refused c → Runs (λ e. walk (e .0) (keyShape f) 1) s p (inTables is i ts t) (λ e. bad (ofRefusal c))
   unfolding keyShape
-  item-no c d = record { law = λ e. front-no (e .0) (tagsShape f) 1 keyFront tt (inTables is i ts t e) s p (ofRefusal c) (ap ofKey (sym d) ∙ here-is (e .0)) }
+  item-no c d = record { law = λ e. front-no (e .0) (tagsIf f 2) 1 keyFront tt (inTables is i ts t e) s p (ofRefusal c) (ap ofKey (sym d) ∙ here-is (e .0)) }
 
-  module _ (a b c n : ℕ) (d : r ≡ Key.Took a b c n) where
-    -- the state once the numbers are stored
-    abbrev numbered : Bool × List ℕ → State
-    numbered e = add 1 (a ∷ b ∷ c ∷ []) (inTables is i ts t e)
+  module _ (a b c n : ℕ) (d : r ≡ Key.Took a b c n) (ts′ : List ℕ) (z : Walked) (l : Runs (λ e. walk (e .0) (tagsIf f (e .1 .t)) (e .1 .o)) s n (Tags.inTables ts t) (Tags.inTablesIs ts′ z)) where
+    -- the items' table once the numbers are stored
+    abbrev numbered : Tab
+    numbered = store (tab is i) (a ∷ b ∷ c ∷ [])
 
-    from-key : (e : Bool × List ℕ) (z : Res State) → z ≡ on (walk (e .0) (tagsShape f) 1 (numbered e)) s n → z ≡ on (walk (e .0) (keyShape f) 1 (inTables is i ts t e)) s p
-    unfolding keyShape rowCells cells
-    from-key e z g = front-took (e .0) (tagsShape f) 1 keyFront tt (inTables is i ts t e) s p (a, (b, (c, tt))) n (ap ofKey (sym d) ∙ here-is (e .0)) z g
+    from-key : (e : Bool × List ℕ) → Tags.inTablesIs ts′ z (e .0, between (e .1), numbered) ≡ on (walk (e .0) (keyShape f) 1 (inTables is i ts t e)) s p
+    unfolding between keyShape rowCells cells add
+    from-key e = front-took (e .0) (tagsIf f 2) 1 keyFront tt (inTables is i ts t e) s p (a, (b, (c, tt))) n (ap ofKey (sym d) ∙ here-is (e .0)) _ (l .law (e .0, between (e .1), numbered))
 
-    module _ (k : ℕ) (is′ : List ℕ) (m : ℕ) (g : tab is′ m ≡ store (tab is i) (a ∷ b ∷ c ∷ k ∷ [])) where
-      rowed : (e : Bool × List ℕ) → add 1 (k ∷ []) (numbered e) ≡ inTables is′ m ts t e
-      unfolding add
-      rowed e = add-two 1 (a ∷ b ∷ c ∷ []) (k ∷ []) (inTables is i ts t e) ∙ (λ j. own (e .1) ∷ sym g j ∷ tab ts t ∷ [])
+    pub item-no-tags : (c : Code.Refusal) → z ≡ Walked.Refused c → Runs (λ e. walk (e .0) (keyShape f) 1) s p (inTables is i ts t) (λ e. bad (ofRefusal c))
+    item-no-tags c j = record { law = λ e. ap (λ (y : Walked). Tags.inTablesIs ts′ y (e .0, between (e .1), numbered)) (sym j) ∙ from-key e }
 
-      pub item-plain : k ≡ minus → f ≡ false → Runs (λ e. walk (e .0) (keyShape f) 1) s p (inTables is i ts t) (rowsIs is′ ts (Rows.Took n m t))
-      item-plain y x = record { law = λ e. from-key e (ok (inTables is′ m ts t e) n) (ap (λ (u : State). ok u n) (sym (rowed e)) ∙ ap (λ (v : ℕ). ok (add 1 (v ∷ []) (numbered e)) n) y ∙ tags-lacking (e .0) f 1 (numbered e) s n x) }
-
-      module _ (x : f ≡ true) (q : ℕ) (y : ok k q ≡ on unsigned s n) (ts′ : List ℕ) (z : Tags) (l : Runs (λ e. loop k (walk (e .0) tagShape (e .1 .o))) s q (inTable ts t) (inTableIs ts′ z)) where
-        at-behind : (e : Bool × List ℕ) → add 1 (k ∷ []) (numbered e) ≡ behind (e .1) is′ m .h (tab ts t)
-        unfolding behind
-        at-behind e = rowed e
-
-        pub item-no-tags : (c : Code.Refusal) → z ≡ Tags.Refused c → Runs (λ e. walk (e .0) (keyShape f) 1) s p (inTables is i ts t) (λ e. bad (ofRefusal c))
-        unfolding behind tagsShape standing stands
-        item-no-tags c j = record { law = λ e. from-key e (bad (ofRefusal c)) (tags-standing f x (e .0) 1 (numbered e) s n (tags-no (e .0) 1 (numbered e) s n k q y (behind (e .1) is′ m) ts t (at-behind e) ts′ z l c j)) }
-
-        pub item-took : (u v : ℕ) → z ≡ Tags.Took u v → Runs (λ e. walk (e .0) (keyShape f) 1) s p (inTables is i ts t) (rowsIs is′ ts′ (Rows.Took u m v))
-        unfolding behind tagsShape standing stands
-        item-took u v j = record { law = λ e. from-key e (ok (inTables is′ m ts′ v e) u) (tags-standing f x (e .0) 1 (numbered e) s n (tags-took (e .0) 1 (numbered e) s n k q y (behind (e .1) is′ m) ts t (at-behind e) ts′ z l u v j)) }
-
-    pub item-no-count : f ≡ true → (c : Refusal) → bad c ≡ on unsigned s n → Runs (λ e. walk (e .0) (keyShape f) 1) s p (inTables is i ts t) (λ e. bad c)
-    unfolding tagsShape standing stands
-    item-no-count x c g = record { law = λ e. from-key e (bad c) (tags-standing f x (e .0) 1 (numbered e) s n (tags-no-count (e .0) 1 (numbered e) s n 2 c g)) }
+    pub item-took : (k u v : ℕ) → z ≡ Walked.Took k u v → (is′ : List ℕ) (m : ℕ) → tab is′ m ≡ store (tab is i) (a ∷ b ∷ c ∷ k ∷ []) → Runs (λ e. walk (e .0) (keyShape f) 1) s p (inTables is i ts t) (rowsIs is′ ts′ (Rows.Took u m v))
+    unfolding between
+    item-took k u v j is′ m g = record {
+      law = λ e.
+          (λ x. ok (own (e .1) ∷ (g ∙ sym (store-append (tab is i) (a ∷ b ∷ c ∷ []) (k ∷ []))) x ∷ tab ts′ v ∷ []) u)
+          ∙ ap (λ (y : Walked). Tags.inTablesIs ts′ y (e .0, between (e .1), numbered)) (sym j)
+          ∙ from-key e;
+    }

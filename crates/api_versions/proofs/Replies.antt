@@ -24,12 +24,13 @@ use Rattle.rows.specs.Store.{State, own, tab}
 use Rattle.rows.specs.Walk.{on, walk}
 use Rattle.rows.proofs.Bound.{lean, slim, taken}
 use Rattle.rows.proofs.Close.{slices}
+use Rattle.rows.proofs.OneTable.{nil}
 use Rattle.rows.proofs.Reply.{answers-fits, answers-left, answers-long, answers-needs, answers-no, short}
 use Rattle.api_versions.specs.Answers.{ofResponse}
-use Rattle.api_versions.specs.Shapes.{bodyShape, keyShape, tagsShape, tailShape}
-use Rattle.api_versions.specs.Walks.{isLeft, ofWalked}
+use Rattle.api_versions.specs.Shapes.{bodyShape, keyShape, tagsIf, tailShape}
+use Rattle.api_versions.specs.Walks.{isLeft, ofMeasured}
 use Rattle.api_versions.specs.declared.ResponseBody.{ResponseBody}
-use Rattle.api_versions.specs.declared.response.Walked.{Walked}
+use Rattle.api_versions.specs.declared.response.Measured.{Measured}
 
 -- ---- what the laws of all messages ask of this one, computed
 
@@ -43,7 +44,7 @@ row-widths = refl
 
 -- the layout of a version, by what sets it apart
 pub shape-is : (v : ℕ) → v ≤ 3 → shape Api.response v ≡ bodyShape (leb 1 v) (leb 3 v)
-unfolding bodyShape tailShape keyShape tagsShape shape at stands standing tagRows Api.keyRows Api.responseRows
+unfolding bodyShape tailShape keyShape tagsIf shape at stands standing tagRows Api.keyRows Api.responseRows
 shape-is zero h = refl
 shape-is (suc zero) h = refl
 shape-is (suc (suc zero)) h = refl
@@ -88,11 +89,6 @@ module _ (w : Bool) (q z : ℕ) where
 
 -- ---- the ways out
 
--- a table with no room has nothing in it
-nil : (t : List ℕ) → length t ≡ 0 → t ≡ []
-nil [] e = refl
-nil (x ∷ t) e = absurd (omega (arith, e))
-
 module _ (w : Bool) (v : ℕ) (known : v ≤ 3) (s is ts : List ℕ) (size : length s ≤ 1048576) where
   -- the walk of code over these tables
   abbrev walked : List ℕ → List ℕ → Res State
@@ -104,18 +100,18 @@ module _ (w : Bool) (v : ℕ) (known : v ≤ 3) (s is ts : List ℕ) (size : len
   abbrev Reply : Answer → List ℕ → List ℕ → Type 0
   Reply a js us = (a, js ∷ us ∷ []) ≡ readAnswer w Api.response (pos v) (is ∷ ts ∷ []) s
 
-  module _ (js₀ js us₀ us : List ℕ) (r : Walked) (first : ofWalked js us r ≡ walked js₀ us₀) (no-items : length js ≡ 0) (no-tags : length us ≡ 0) where
+  module _ (js₀ js us₀ us : List ℕ) (r : Measured) (first : ofMeasured js us r ≡ walked js₀ us₀) (no-items : length js ≡ 0) (no-tags : length us ≡ 0) where
     -- over no room nothing is altered
     kept : (a : Answer) → Reply a is ts → Reply a (js ++ is) (us ++ ts)
     kept a e = (λ i. (a, (nil js no-items i ++ is) ∷ (nil us no-tags i ++ ts) ∷ [])) ∙ e
 
-    pub reply-no : (c : Code.Refusal) → r ≡ Walked.Refused c → Reply (refused (ofRefusal c)) (js ++ is) (us ++ ts)
+    pub reply-no : (c : Code.Refusal) → r ≡ Measured.Refused c → Reply (refused (ofRefusal c)) (js ++ is) (us ++ ts)
     reply-no c e =
-        kept _ (answers-no Api.response api-response is-slim w v known s size (is ∷ ts ∷ []) (js₀ ∷ us₀ ∷ []) refl refl (ofRefusal c) (ap (ofWalked js us) (sym e) ∙ first ∙ as-shape js₀ us₀))
+        kept _ (answers-no Api.response api-response is-slim w v known s size (is ∷ ts ∷ []) (js₀ ∷ us₀ ∷ []) refl refl (ofRefusal c) (ap (ofMeasured js us) (sym e) ∙ first ∙ as-shape js₀ us₀))
 
-    module _ (x : ResponseBody) (q i t : ℕ) (e : r ≡ Walked.Took x q i t) where
+    module _ (x : ResponseBody) (q i t : ℕ) (e : r ≡ Measured.Took x q i t) where
       measured : ok (own (ofResponse x) ∷ tab js i ∷ tab us t ∷ []) q ≡ on (walk w (shape Api.response v) 0 (own [] ∷ tab js₀ 0 ∷ tab us₀ 0 ∷ [])) s 0
-      measured = ap (ofWalked js us) (sym e) ∙ first ∙ as-shape js₀ us₀
+      measured = ap (ofMeasured js us) (sym e) ∙ first ∙ as-shape js₀ us₀
 
       pub reply-left : isLeft w q (length s) ≡ true → (c : Refusal) → c ≡ because 9 q → Reply (refused c) (js ++ is) (us ++ ts)
       reply-left l c d =
@@ -141,15 +137,15 @@ module _ (w : Bool) (v : ℕ) (known : v ≤ 3) (s is ts : List ℕ) (size : len
           pub reply-tags : length (us ++ ts) / 3 < t / 3 → (c : Refusal) → c ≡ noRoom (t / 3) → Reply (refused c) (js ++ is) (us ++ ts)
           reply-tags k c d = lacks-room (t / 3) (short-tags i t (length is) (length ts) items-fit (subst (λ (n : ℕ). n / 3 < t / 3) (long us ts no-tags) k)) c d
 
-          pub reply-took : t / 3 ≤ length (us ++ ts) / 3 → (js₂ us₂ : List ℕ) (r₂ : Walked) → ofWalked js₂ us₂ r₂ ≡ walked (js ++ is) (us ++ ts) → Reply (accepted (ofResponse x) q) js₂ us₂
+          pub reply-took : t / 3 ≤ length (us ++ ts) / 3 → (js₂ us₂ : List ℕ) (r₂ : Measured) → ofMeasured js₂ us₂ r₂ ≡ walked (js ++ is) (us ++ ts) → Reply (accepted (ofResponse x) q) js₂ us₂
           reply-took k js₂ us₂ r₂ d =
               answers-fits Api.response api-response is-slim w v known s size (is ∷ ts ∷ []) (js₀ ∷ us₀ ∷ []) refl refl (ofResponse x) (tab js i ∷ tab us t ∷ []) q measured (none-left w q (length s) l)
-              (short-none i t (length is) (length ts) items-fit (subst (λ (n : ℕ). t / 3 ≤ n / 3) (long us ts no-tags) k)) (ofWalked js₂ us₂ r₂)
+              (short-none i t (length is) (length ts) items-fit (subst (λ (n : ℕ). t / 3 ≤ n / 3) (long us ts no-tags) k)) (ofMeasured js₂ us₂ r₂)
               (d ∙ (λ j. walked (nil js no-items j ++ is) (nil us no-tags j ++ ts)) ∙ as-shape is ts) (js₂ ∷ us₂ ∷ []) (λ y n j. holds r₂ y n j)
             where
-              holds : (r₂ : Walked) (y : State) (n : ℕ) → ofWalked js₂ us₂ r₂ ≡ ok y n → slices y ≡ js₂ ∷ us₂ ∷ []
-              holds (Walked.Took b u j m) y n g = let z : own (ofResponse b) ∷ tab js₂ j ∷ tab us₂ m ∷ [] ≡ y = cc in ap slices (sym z)
-              holds (Walked.Refused c) y n g = not-ok g
+              holds : (r₂ : Measured) (y : State) (n : ℕ) → ofMeasured js₂ us₂ r₂ ≡ ok y n → slices y ≡ js₂ ∷ us₂ ∷ []
+              holds (Measured.Took b u j m) y n g = let z : own (ofResponse b) ∷ tab js₂ j ∷ tab us₂ m ∷ [] ≡ y = cc in ap slices (sym z)
+              holds (Measured.Refused c) y n g = not-ok g
 
 -- ---- the version, and the size
 

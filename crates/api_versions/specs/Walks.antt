@@ -16,7 +16,7 @@ use Rattle.api_versions.specs.declared.response.Key.{Key}
 use Rattle.api_versions.specs.declared.response.Rows.{Rows}
 use Rattle.api_versions.specs.declared.response.Tail.{Tail}
 use Rattle.api_versions.specs.declared.response.Throttled.{Throttled}
-use Rattle.api_versions.specs.declared.response.Walked.{Walked}
+use Rattle.api_versions.specs.declared.response.Measured.{Measured}
 
 abbrev pub ofKey : Key → Res (Value Span keyFront)
 ofKey (Key.Took a b c n) = ok (a, (b, (c, tt))) n
@@ -53,14 +53,14 @@ abbrev pub ofTail : List ℕ → Tail → Before → Res State
 ofTail ts (Tail.Took x k n t) e = ok (own (e .error ∷ e .count ∷ (ofThrottle x ++ (k ∷ []))) ∷ e .items ∷ tab ts t ∷ []) n
 ofTail ts (Tail.Refused c) e = bad (ofRefusal c)
 
-abbrev pub ofWalked : List ℕ → List ℕ → Walked → Res State
-ofWalked is ts (Walked.Took x n i t) = ok (own (ofResponse x) ∷ tab is i ∷ tab ts t ∷ []) n
-ofWalked is ts (Walked.Refused e) = bad (ofRefusal e)
+abbrev pub ofMeasured : List ℕ → List ℕ → Measured → Res State
+ofMeasured is ts (Measured.Took x n i t) = ok (own (ofResponse x) ∷ tab is i ∷ tab ts t ∷ []) n
+ofMeasured is ts (Measured.Refused e) = bad (ofRefusal e)
 
 -- the body, from what was read before its tail and the tail
-abbrev pub finish : ℕ → ℕ → ℕ → Tail → Walked
-finish e k i (Tail.Took x n q t) = Walked.Took (record { error = e; items = k; throttle = x; tags = n }) q i t
-finish e k i (Tail.Refused c) = Walked.Refused c
+abbrev pub finish : ℕ → ℕ → ℕ → Tail → Measured
+finish e k i (Tail.Took x n q t) = Measured.Took (record { error = e; items = k; throttle = x; tags = n }) q i t
+finish e k i (Tail.Refused c) = Measured.Refused c
 
 -- a whole read ended at q, of z bytes
 unfoldable pub isLeft : Bool → ℕ → ℕ → Bool

@@ -10,17 +10,17 @@ ghost use Rattle.layout.specs.Read.{byPlace, read};
 ghost use Rattle.layout.specs.Answers.{prefixRead, readAnswer, wholeRead};
 ghost use Rattle.layout.specs.Messages.ApiVersions as Api;
 ghost use Rattle.rows.specs.Store.{own, tab};
+ghost use Rattle.tags.specs.Answers as Tags;
 ghost use Rattle.rows.specs.Walk.{Runs, on, walk};
 ghost use Rattle.api_versions.specs.Answers.{ofResponseReply};
-ghost use Rattle.api_versions.specs.Shapes.{bodyShape, keyFront, keyShape, tailShape};
-ghost use Rattle.api_versions.specs.Walks.{behindItems, finish, inTables, isLeft, ofKey, ofTail, ofThrottled, ofWalked, rowsIs, throttle};
+ghost use Rattle.api_versions.specs.Shapes.{bodyShape, keyFront, keyShape, tagsIf, tailShape};
+ghost use Rattle.api_versions.specs.Walks.{behindItems, finish, inTables, isLeft, ofKey, ofTail, ofThrottled, ofMeasured, rowsIs, throttle};
 use crate::ResponseBody;
 use crate::ResponseReply;
 use crate::Throttle;
 use places::int16_at;
 use places::int32_at;
 use places::items_at;
-use places::varint_at;
 use primitives::BYTES_LEFT;
 use primitives::MOST;
 use primitives::NO_VERSION;
@@ -31,8 +31,8 @@ use primitives::at;
 use primitives::no_room;
 use primitives::version_of;
 use rows::store4;
-use tags::Tags;
-use tags::tags_at;
+use tags::Walked;
+use tags::tag_buffer_at;
 
 // -1: tags that the version lacks.
 const ABSENT: u64 = 18446744073709551615;
@@ -76,7 +76,7 @@ pub enum Tail {
 }
 
 // A body, the place behind it, and the marks of the tables.
-pub enum Walked {
+pub enum Measured {
     Took {
         body: ResponseBody,
         next: usize,
@@ -84,6 +84,20 @@ pub enum Walked {
         tags: usize,
     },
     Refused(Refusal),
+}
+
+// Tagged fields at the end of a row, where the version has them.
+fn tags_if(s: &[u8], p: usize, flexible: bool, table: &mut [u64], mark: usize) -> Walked
+    ensures { λ r. ⌜ Runs (λ e. walk (e .0) (tagsIf flexible (e .1 .t)) (e .1 .o)) (now (s .entry)) p (Tags.inTables (now (table .entry)) mark) (Tags.inTablesIs (now (table .exit)) r) ⌝ }
+{
+    if flexible {
+        return tag_buffer_at(s, p, table, mark);
+    }
+    Walked::Took {
+        count: ABSENT,
+        used: p,
+        mark,
+    }
 }
 
 // ---- items
@@ -136,30 +150,16 @@ fn item_at(
             max,
             next,
         } => {
-            if !flexible {
-                let mark = store4(items, row, key, min, max, ABSENT);
-                return Rows::Took {
-                    next,
-                    items: mark,
-                    tags: tag,
-                };
-            }
-            match varint_at(s, next) {
-                Number::Took { value, used } => {
-                    let mark = store4(items, row, key, min, max, value);
-                    match tags_at(s, used, value, tags, tag) {
-                        Tags::Took {
-                            next: behind,
-                            mark: last,
-                        } => Rows::Took {
-                            next: behind,
-                            items: mark,
-                            tags: last,
-                        },
-                        Tags::Refused(e) => Rows::Refused(e),
+            match tags_if(s, next, flexible, tags, tag) {
+                Walked::Took { count, used, mark } => {
+                    let below = store4(items, row, key, min, max, count);
+                    Rows::Took {
+                        next: used,
+                        items: below,
+                        tags: mark,
                     }
                 }
-                Number::Refused(e) => Rows::Refused(e),
+                Walked::Refused(e) => Rows::Refused(e),
             }
         }
         Key::Refused(e) => Rows::Refused(e),
@@ -237,38 +237,26 @@ fn tail_at(
     ensures { λ r. ⌜ Runs (λ e. walk (e .whole) (tailShape throttled flexible) 0) (now (s .entry)) p (behindItems (now (tags .entry)) mark) (ofTail (now (tags .exit)) r) ⌝ }
 {
     match throttle_at(s, p, throttled) {
-        Throttled::Took { throttle, next } => {
-            if !flexible {
-                return Tail::Took {
-                    throttle,
-                    tags: ABSENT,
-                    next,
-                    mark,
-                };
-            }
-            match varint_at(s, next) {
-                Number::Took { value, used } => match tags_at(s, used, value, tags, mark) {
-                    Tags::Took {
-                        next: behind,
-                        mark: last,
-                    } => Tail::Took {
-                        throttle,
-                        tags: value,
-                        next: behind,
-                        mark: last,
-                    },
-                    Tags::Refused(e) => Tail::Refused(e),
-                },
-                Number::Refused(e) => Tail::Refused(e),
-            }
-        }
+        Throttled::Took { throttle, next } => match tags_if(s, next, flexible, tags, mark) {
+            Walked::Took {
+                count,
+                used,
+                mark: last,
+            } => Tail::Took {
+                throttle,
+                tags: count,
+                next: used,
+                mark: last,
+            },
+            Walked::Refused(e) => Tail::Refused(e),
+        },
         Throttled::Refused(e) => Tail::Refused(e),
     }
 }
 
 // ---- the body
 
-fn finished(error: u64, count: u64, row: usize, tail: Tail) -> Walked
+fn finished(error: u64, count: u64, row: usize, tail: Tail) -> Measured
     ensures { λ r. ⌜ r ≡ finish error count row tail ⌝ }
 {
     match tail {
@@ -277,7 +265,7 @@ fn finished(error: u64, count: u64, row: usize, tail: Tail) -> Walked
             tags,
             next,
             mark,
-        } => Walked::Took {
+        } => Measured::Took {
             body: ResponseBody {
                 error,
                 items: count,
@@ -288,7 +276,7 @@ fn finished(error: u64, count: u64, row: usize, tail: Tail) -> Walked
             items: row,
             tags: mark,
         },
-        Tail::Refused(e) => Walked::Refused(e),
+        Tail::Refused(e) => Measured::Refused(e),
     }
 }
 
@@ -299,8 +287,8 @@ fn body_at(
     whole: bool,
     items: &mut [u64],
     tags: &mut [u64],
-) -> Walked
-    ensures { λ r. ⌜ ofWalked (now (items .exit)) (now (tags .exit)) r ≡ on (walk whole (bodyShape throttled flexible) 0 (own [] ∷ tab (now (items .entry)) 0 ∷ tab (now (tags .entry)) 0 ∷ [])) (now (s .entry)) 0 ⌝ }
+) -> Measured
+    ensures { λ r. ⌜ ofMeasured (now (items .exit)) (now (tags .exit)) r ≡ on (walk whole (bodyShape throttled flexible) 0 (own [] ∷ tab (now (items .entry)) 0 ∷ tab (now (tags .entry)) 0 ∷ [])) (now (s .entry)) 0 ⌝ }
 {
     match int16_at(s, 0) {
         Number::Took {
@@ -321,11 +309,11 @@ fn body_at(
                     row,
                     tail_at(s, next, throttled, flexible, tags, tag),
                 ),
-                Rows::Refused(e) => Walked::Refused(e),
+                Rows::Refused(e) => Measured::Refused(e),
             },
-            Number::Refused(e) => Walked::Refused(e),
+            Number::Refused(e) => Measured::Refused(e),
         },
-        Number::Refused(e) => Walked::Refused(e),
+        Number::Refused(e) => Measured::Refused(e),
     }
 }
 
@@ -345,7 +333,7 @@ fn judged(msg: &[u8], v: u64, whole: bool, items: &mut [u64], tags: &mut [u64]) 
     ensures { λ r. ⌜ (ofResponseReply r, now (items .exit) ∷ now (tags .exit) ∷ []) ≡ readAnswer whole Api.response (pos v) (now (items .entry) ∷ now (tags .entry) ∷ []) (now (msg .entry)) ⌝ }
 {
     match body_at(msg, 1 <= v, 3 <= v, whole, &mut items[..0], &mut tags[..0]) {
-        Walked::Took {
+        Measured::Took {
             body,
             next,
             items: row,
@@ -363,7 +351,7 @@ fn judged(msg: &[u8], v: u64, whole: bool, items: &mut [u64], tags: &mut [u64]) 
             body_at(msg, 1 <= v, 3 <= v, whole, items, tags);
             ResponseReply::Took { body, used: next }
         }
-        Walked::Refused(e) => ResponseReply::Refused(e),
+        Measured::Refused(e) => ResponseReply::Refused(e),
     }
 }
 

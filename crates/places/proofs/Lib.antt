@@ -2,3 +2,5 @@
 pub mod OnRest
 -- the number of items
 pub mod Counts
+-- a compact string
+pub mod TextAt

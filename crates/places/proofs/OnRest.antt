@@ -1,19 +1,18 @@
 -- A primitive on the rest of a message is the primitive at the place where the rest starts.
-use mathlib.Core.Bool.{Bool}
+use mathlib.Core.Bool.{Bool, false}
 use mathlib.Core.List.{List}
 use mathlib.Core.Path.{_∙_, _≡_, ap, refl, sym}
 use Prim.Native.Nat.{_-_, _<_, _^_, ℕ}
-use native.Mathlib.Decide.{decLe}
-use native.Mathlib.Omega.{arith}
 use lib.ListN.{drop, length}
 use Rattle.layout.specs.Reading.{Reader, Refusal, Res, bad, because, give, next, ok, then}
-use Rattle.layout.specs.Primitives.{Size, Width, admits, cell, cellOf, checked, int, lengthOf, refusal, signed, size, unsigned}
-use Rattle.layout.specs.Rows.{items}
-use Rattle.layout.proofs.Local.{Local, local-cell, local-checked, local-give, local-length, local-then, local-unsigned, not-ok}
-use Rattle.layout.proofs.Steps.{int-bad, int-ok, primitive-place, then-bad, then-ok}
-use Rattle.primitives.proofs.Zigzag.{placed-0}
+use Rattle.layout.specs.Primitives.{Size, Width, admits, cell, checked, lengthOf, refusal, unsigned}
+use Rattle.layout.specs.Rows.{Basic, items, natural, number}
+use Rattle.layout.specs.Read.{byPlace, readBasic}
+use Rattle.layout.proofs.Local.{Local, local-basic, local-checked, local-flag, local-give, local-length, local-then, local-unsigned, not-ok}
+use Rattle.layout.proofs.Steps.{primitive-place}
 use Rattle.rows.specs.Walk.{itemCount, on}
-use Rattle.rows.proofs.Moves.{Moves, at-fits, at-no, at-took, moves-cell, moves-items, moves-unsigned, still}
+use Rattle.rows.proofs.Fields.{field-place}
+use Rattle.rows.proofs.Moves.{Moves, at-fits, at-no, at-took, furtherBasic, moves-basic, moves-items, still}
 use Rattle.places.specs.Moved.{Fits, arrayItems, fromPlace}
 
 -- what a primitive owes to be read so: it does not look where it stands, takes no more than is there, and refuses at its own start
@@ -22,21 +21,17 @@ pub record Portable {A : Type 0} (r : Reader A) (g : ℕ → A → A) : Type 0 w
   pub local : Local r
   pub at-start : (s : List ℕ) (e : Refusal) → r 0 s ≡ bad e → e ≡ because (e .number) 0
 
-cell-start : (w : Width) (s : List ℕ) (e : Refusal) → cell w 0 s ≡ bad e → e ≡ because (e .number) 0
-unfolding cell give
-cell-start w s e h =
-    elim (decLe (size w) (length s)) [
-      | yes l ↦ not-ok (sym h ∙ then-ok (int (size w)) _ 0 s _ _ (int-ok (size w) 0 s l))
-      | no l ↦
-          let x : because 3 0 ≡ e = let g = then-bad (int (size w)) (λ n. give (cellOf (signed w n))) 0 s (because 3 0) (int-bad (size w) 0 s (omega arith)) in cc in
-          sym x ∙ ap (λ (d : Refusal). because (d .number) 0) x
-    ]
+-- every kind of field
+pub portable-field : (w : Bool) (k : Basic) → Portable (readBasic (byPlace w) k) (furtherBasic k)
+portable-field w k = record { moves = moves-basic w k; local = local-basic (byPlace w) local-unsigned local-flag k; at-start = λ s e h. field-place w k 0 s e h }
 
 pub portable-cell : (w : Width) → Portable (cell w) still
-portable-cell w = record { moves = moves-cell w; local = local-cell w; at-start = cell-start w }
+unfolding readBasic
+portable-cell w = portable-field false (number w)
 
 pub portable-unsigned : Portable unsigned still
-portable-unsigned = record { moves = moves-unsigned; local = local-unsigned; at-start = placed-0 }
+unfolding readBasic
+portable-unsigned = portable-field false natural
 
 items-start : (w : Bool) (z : Size) (s : List ℕ) (e : Refusal) → itemCount w z 0 s ≡ bad e → e ≡ because (e .number) 0
 unfolding itemCount then give checked

@@ -1,13 +1,18 @@
 // Primitives at a place of a message, as walks over a body read them: each is read on the rest from the place on, and its answer counts from the message's start.
+ghost use mathlib.Core.Bool.{false};
 ghost use mathlib.Core.Path.{_≡_};
-ghost use Rattle.layout.specs.Primitives.{cell, unsigned, w16, w32};
+ghost use Rattle.layout.specs.Primitives.{cell, compact, never, unsigned, w16, w32};
+ghost use Rattle.layout.specs.Read.{byPlace, readBasic};
+ghost use Rattle.layout.specs.Rows.{text};
 ghost use Rattle.primitives.specs.Answers.{ofNumber};
-ghost use Rattle.fields.specs.Answers.{ofCount};
+ghost use Rattle.fields.specs.Answers.{ofCount, ofPart};
 ghost use Rattle.rows.specs.Walk.{on};
 ghost use Rattle.places.specs.Moved.{Fits, arrayCount, arrayItems, fromPlace, itemsOf};
 use fields::Count;
+use fields::Part;
 use fields::counts;
 use fields::parts;
+use fields::texts;
 use primitives::NULL_ITEMS;
 use primitives::Number;
 use primitives::at;
@@ -74,4 +79,17 @@ pub fn items_at(s: &[u8], p: usize, flexible: bool, whole: bool) -> Number
     ensures { λ r. ⌜ ofNumber r ≡ on (arrayItems flexible whole) (now (s .entry)) p ⌝ }
 {
     moved(items(count(parts::rest(s, p), flexible), whole), p)
+}
+
+pub fn compact_string_at(s: &[u8], p: usize) -> Part
+    ensures { λ r. ⌜ ofPart r ≡ on (readBasic (byPlace false) (text (compact never))) (now (s .entry)) p ⌝ }
+{
+    match texts::compact_string(parts::rest(s, p)) {
+        Part::Took { start, len, used } => Part::Took {
+            start: p + start,
+            len,
+            used: p + used,
+        },
+        Part::Refused(e) => Part::Refused(at(e.number, p)),
+    }
 }

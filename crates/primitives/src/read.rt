@@ -13,7 +13,7 @@ use crate::at;
 use crate::numbers;
 
 // The signed number that a cell shows.
-fn signed(c: u64) -> i64
+pub fn signed(c: u64) -> i64
     ensures { λ r. ⌜ r ≡ shownOf c ⌝ }
 {
     if c < 9223372036854775808 {

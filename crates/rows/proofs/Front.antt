@@ -68,15 +68,15 @@ module _ (w : Bool) (r : Shape) (o : ℕ) where
 -- ---- a row read field by field
 
 module _ (w : Bool) (k : Basic) (r : Shape) (s : List ℕ) (p : ℕ) where
-  pub field-no : (c : Refusal) → bad c ≡ on (readBasic (byPlace w) k) s p → bad c ≡ on (read (byPlace w) (field k r)) s p
+  pub reads-no : (c : Refusal) → bad c ≡ on (readBasic (byPlace w) k) s p → bad c ≡ on (read (byPlace w) (field k r)) s p
   unfolding read pair
-  field-no c e = then-no (readBasic (byPlace w) k) _ s p e
+  reads-no c e = then-no (readBasic (byPlace w) k) _ s p e
 
-  pub field-took : (x : BasicValue Span k) (q : ℕ) → ok x q ≡ on (readBasic (byPlace w) k) s p → (z : Res (Value Span r)) → z ≡ on (read (byPlace w) r) s q → over (λ y. (x, y)) z ≡ on (read (byPlace w) (field k r)) s p
+  pub reads-took : (x : BasicValue Span k) (q : ℕ) → ok x q ≡ on (readBasic (byPlace w) k) s p → (z : Res (Value Span r)) → z ≡ on (read (byPlace w) r) s q → over (λ y. (x, y)) z ≡ on (read (byPlace w) (field k r)) s p
   unfolding read pair
-  field-took x q e (ok y n) d = then-took (readBasic (byPlace w) k) _ s p e (then-took (read (byPlace w) r) _ s q d (give-took (x, y) s n))
-  field-took x q e (bad c) d = then-took (readBasic (byPlace w) k) _ s p e (then-no (read (byPlace w) r) _ s q d)
+  reads-took x q e (ok y n) d = then-took (readBasic (byPlace w) k) _ s p e (then-took (read (byPlace w) r) _ s q d (give-took (x, y) s n))
+  reads-took x q e (bad c) d = then-took (readBasic (byPlace w) k) _ s p e (then-no (read (byPlace w) r) _ s q d)
 
-pub fields-end : (w : Bool) (s : List ℕ) (p : ℕ) → ok tt p ≡ on (read (byPlace w) end) s p
+pub reads-end : (w : Bool) (s : List ℕ) (p : ℕ) → ok tt p ≡ on (read (byPlace w) end) s p
 unfolding read
-fields-end w s p = give-took tt s p
+reads-end w s p = give-took tt s p

@@ -23,3 +23,9 @@ pub mod Front
 pub mod Arrays
 -- the same for walks, whose counts stop above the limit
 pub mod Capped
+-- the rows of a table
+pub mod Chunks
+-- a field at a place of the message, and as a step of a walk
+pub mod Fields
+-- the whole reply of a read with one table
+pub mod OneTable

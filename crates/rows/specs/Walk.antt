@@ -28,6 +28,14 @@ pub record Place : Type 0 where
   pub o : ℕ
   pub law : (x : Tab) (cs : List ℕ) → add o cs (h x) ≡ h (store x cs)
 
+-- the places of a row's table and of the table of its items: the row's is told first
+pub record Places : Type 0 where
+  pub h : Tab → Tab → State
+  pub o : ℕ
+  pub t : ℕ
+  pub row-law : (x y : Tab) (cs : List ℕ) → add o cs (h x y) ≡ h (store x cs) y
+  pub items-law : (x y : Tab) (cs : List ℕ) → add t cs (h x y) ≡ h x (store y cs)
+
 -- Run from b at p, the walk comes to f. e is what the walk does not touch, the other tables or where its own stand among them: it may be anything
 pub record Runs {E : Type 0} (x : E → State → Reader State) (s : List ℕ) (p : ℕ) (b : E → State) (f : E → Res State) : Type 0 where
   pub law : (e : E) → f e ≡ on (x e (b e)) s p

@@ -4,12 +4,12 @@ use mathlib.Core.List.{List, [], _∷_}
 use Prim.Native.Nat.{ℕ}
 use Rattle.layout.specs.Reading.{Res, bad, ok}
 use Rattle.layout.specs.Primitives.{plain}
-use Rattle.layout.specs.Rows.{Shape, Value, blob, end, field, natural}
+use Rattle.layout.specs.Rows.{Shape, Value, array, blob, end, field, natural}
 use Rattle.layout.specs.Tables.{Span}
 use Rattle.layout.specs.Answers.{Answer, accepted, refused}
 use Rattle.primitives.specs.Answers.{ofRefusal}
-use Rattle.rows.specs.Store.{State, own, tab}
-use Rattle.rows.specs.Walk.{Place}
+use Rattle.rows.specs.Store.{State, Tab, store, tab}
+use Rattle.rows.specs.Walk.{Place, Places}
 use Rattle.tags.specs.declared.Tag.{Tag}
 use Rattle.tags.specs.declared.Tagged.{Tagged}
 use Rattle.tags.specs.declared.Tags.{Tags}
@@ -31,10 +31,18 @@ abbrev pub inTableIs : List ℕ → Tags → Bool × Place → Res State
 inTableIs l (Tags.Took n k) e = ok (inTable l k e) n
 inTableIs l (Tags.Refused c) e = bad (ofRefusal c)
 
--- the own row holds the number of tags
-abbrev pub ofWalked : List ℕ → Walked → Res State
-ofWalked l (Walked.Took c n k) = ok (own (c ∷ []) ∷ tab l k ∷ []) n
-ofWalked l (Walked.Refused e) = bad (ofRefusal e)
+-- tagged fields at the end of a row, their tags in table t
+abbrev pub tagsShape : ℕ → Shape
+tagsShape t = array plain t tagShape end
+
+-- the table of the row so far and that of its tags, wherever they stand among the others
+abbrev pub inTables : List ℕ → ℕ → Bool × Places × Tab → State
+inTables l k e = e .1 .h (e .2) (tab l k)
+
+-- the row has the number of tags
+abbrev pub inTablesIs : List ℕ → Walked → Bool × Places × Tab → Res State
+inTablesIs l (Walked.Took c n k) e = ok (e .1 .h (store (e .2) (c ∷ [])) (tab l k)) n
+inTablesIs l (Walked.Refused c) e = bad (ofRefusal c)
 
 abbrev pub ofTagged : Tagged → Answer
 ofTagged (Tagged.Took k n) = accepted (k ∷ []) n

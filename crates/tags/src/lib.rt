@@ -7,11 +7,10 @@ ghost use Rattle.layout.specs.Reading.{loop};
 ghost use Rattle.layout.specs.Primitives.{plain};
 ghost use Rattle.layout.specs.Rows.{blob};
 ghost use Rattle.layout.specs.Read.{byPlace, read, readBasic};
-ghost use Rattle.layout.specs.Answers.{prefixRead, shape, tagsAlone};
+ghost use Rattle.layout.specs.Answers.{prefixRead, tagsAlone};
 ghost use Rattle.fields.specs.Answers.{ofPart};
-ghost use Rattle.rows.specs.Store.{own, tab};
 ghost use Rattle.rows.specs.Walk.{Runs, on, walk};
-ghost use Rattle.tags.specs.Answers.{inTable, inTableIs, ofTag, ofTagged, ofWalked, tagShape};
+ghost use Rattle.tags.specs.Answers.{inTable, inTableIs, inTables, inTablesIs, ofTag, ofTagged, tagShape, tagsShape};
 use fields::Part;
 use fields::parts;
 use places::varint_at;
@@ -142,16 +141,16 @@ pub fn tags_at(s: &[u8], p: usize, count: u64, table: &mut [u64], mark: usize) -
     }
 }
 
-// The number of tags and the tags, from the message's start into the table's start.
-fn tag_buffer(msg: &[u8], table: &mut [u64]) -> Walked
-    ensures { λ r. ⌜ ofWalked (now (table .exit)) r ≡ on (walk false (shape tagsAlone 0) 0 (own [] ∷ tab (now (table .entry)) 0 ∷ [])) (now (msg .entry)) 0 ⌝ }
+// The number of tags and the tags, at the end of a row.
+pub fn tag_buffer_at(s: &[u8], p: usize, table: &mut [u64], mark: usize) -> Walked
+    ensures { λ r. ⌜ Runs (λ e. walk (e .0) (tagsShape (e .1 .t)) (e .1 .o)) (now (s .entry)) p (inTables (now (table .entry)) mark) (inTablesIs (now (table .exit)) r) ⌝ }
 {
-    match varint_at(msg, 0) {
-        Number::Took { value, used } => match tags_at(msg, used, value, table, 0) {
-            Tags::Took { next, mark } => Walked::Took {
+    match varint_at(s, p) {
+        Number::Took { value, used } => match tags_at(s, used, value, table, mark) {
+            Tags::Took { next, mark: behind } => Walked::Took {
                 count: value,
                 used: next,
-                mark,
+                mark: behind,
             },
             Tags::Refused(e) => Walked::Refused(e),
         },
@@ -167,12 +166,12 @@ pub fn tagged_fields(msg: &[u8], table: &mut [u64]) -> Tagged
         return Tagged::Refused(at(TOO_LONG, 0));
     }
     // Over no room the walk measures.
-    match tag_buffer(msg, &mut table[..0]) {
+    match tag_buffer_at(msg, 0, &mut table[..0], 0) {
         Walked::Took { count, used, mark } => {
             if table.len() / 3 < mark / 3 {
                 return Tagged::Refused(no_room(mark / 3));
             }
-            tag_buffer(msg, table);
+            tag_buffer_at(msg, 0, table, 0);
             Tagged::Took { count, used }
         }
         Walked::Refused(e) => Tagged::Refused(e),

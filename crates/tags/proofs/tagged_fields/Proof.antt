@@ -10,14 +10,14 @@ at-requires c κs = search needs
 returns : tie.Need-returns
 returns c = reply-long _ _ _ (c .at .ensures) (search needs)
 
-slice-relend-prefix-tag-buffer : tie.Need-slice-relend-prefix-tag-buffer
-slice-relend-prefix-tag-buffer c = search needs
+slice-relend-prefix-tag-buffer-at : tie.Need-slice-relend-prefix-tag-buffer-at
+slice-relend-prefix-tag-buffer-at c = search needs
 
-slice-aggregate-tag-buffer : tie.Need-slice-aggregate-tag-buffer
-slice-aggregate-tag-buffer c = search needs
+slice-aggregate-tag-buffer-at : tie.Need-slice-aggregate-tag-buffer-at
+slice-aggregate-tag-buffer-at c = search needs
 
-tag-buffer-requires : tie.Need-tag-buffer-requires
-tag-buffer-requires c κs = search needs
+tag-buffer-at-requires : tie.Need-tag-buffer-at-requires
+tag-buffer-at-requires c κs = search needs
 
 enum-known-count : tie.Need-enum-known-count
 enum-known-count c = search needs
@@ -29,10 +29,10 @@ same-length : tie.Need-same-length
 same-length c = search needs
 
 returns-2 : tie.Need-returns-2
-returns-2 c = reply-needs _ _ (search needs) _ _ _ (c .before .before .before .before .before .before .before .tag-buffer .ensures) (search needs) _ _ _ (c .before .before .before .count .given .1) (c .before .if2 .taken) _ (c .no-room .ensures)
+returns-2 c = reply-needs _ _ (search needs) _ _ _ (c .before .before .before .before .before .before .before .tag-buffer-at .ensures) (search needs) _ _ _ (c .before .before .before .count .given .1) (c .before .if2 .taken) _ (c .no-room .ensures)
 
-tag-buffer-requires-2 : tie.Need-tag-buffer-requires-2
-tag-buffer-requires-2 c κs = search needs
+tag-buffer-at-requires-2 : tie.Need-tag-buffer-at-requires-2
+tag-buffer-at-requires-2 c κs = search needs
 
 enum-known-e : tie.Need-enum-known-e
 enum-known-e c = search needs
@@ -41,13 +41,13 @@ same-length-2 : tie.Need-same-length-2
 same-length-2 c = search needs
 
 returns-3 : tie.Need-returns-3
-returns-3 c = reply-took _ _ (search needs) _ _ _ (c .before .before .before .before .before .before .before .before .before .before .tag-buffer .ensures) (search needs) _ _ _ (c .before .before .before .before .before .before .count .given .1) (search needs) _ (c .before .before .tag-buffer2 .result) (c .before .before .tag-buffer2 .ensures)
+returns-3 c = reply-took _ _ (search needs) _ _ _ (c .before .before .before .before .before .before .before .before .before .before .tag-buffer-at .ensures) (search needs) _ _ _ (c .before .before .before .before .before .before .count .given .1) (search needs) _ (c .before .before .tag-buffer-at2 .result) (c .before .before .tag-buffer-at2 .ensures)
 
 same-length-3 : tie.Need-same-length-3
 same-length-3 c = search needs
 
 returns-4 : tie.Need-returns-4
-returns-4 c = reply-no _ _ (search needs) _ _ _ (c .before .before .before .before .before .tag-buffer .ensures) (search needs) _ (c .before .e .given .1)
+returns-4 c = reply-no _ _ (search needs) _ _ _ (c .before .before .before .before .before .tag-buffer-at .ensures) (search needs) _ (c .before .e .given .1)
 
 pub tagged-fields-spec : {M : Type 1} → statement M
 tagged-fields-spec =
@@ -55,14 +55,14 @@ tagged-fields-spec =
     (tie.spec
     at-requires
     returns
-    slice-relend-prefix-tag-buffer
-    slice-aggregate-tag-buffer
-    tag-buffer-requires
+    slice-relend-prefix-tag-buffer-at
+    slice-aggregate-tag-buffer-at
+    tag-buffer-at-requires
     enum-known-count
     no-room-requires
     same-length
     returns-2
-    tag-buffer-requires-2
+    tag-buffer-at-requires-2
     enum-known-e
     same-length-2
     returns-3
