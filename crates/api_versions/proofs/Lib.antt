@@ -18,3 +18,5 @@ pub mod Chosen
 pub mod Row
 -- what agreement promises, in the words of the rules
 pub mod Choices
+-- demand 3 and what stands behind the used bytes, of the calls themselves
+pub mod FearedNight

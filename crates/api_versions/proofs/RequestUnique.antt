@@ -32,7 +32,7 @@ abbrev replyOf : Answer → RequestReply
 replyOf (accepted cs n) = RequestReply.Took (requestOf cs) n
 replyOf (refused e) = RequestReply.Refused (refusalOf e)
 
-abbrev said : RequestReply × List ℕ → Answer × Tables
+abbrev pub said : RequestReply × List ℕ → Answer × Tables
 said x = (ofRequestReply (x .0), x .1 ∷ [])
 
 said-back : (x : RequestReply × List ℕ) → (replyOf (said x .0), getD (said x .1) 0 []) ≡ x

@@ -1,0 +1,56 @@
+-- The calls themselves: whatever replies their promises allow, of the three ApiVersions response layouts (version 0; 1 and 2; 3) at most one accepts a body read whole,
+-- and nothing behind the bytes that an accepted prefix read used has a part in its answer.
+use mathlib.Core.List.{List, [], _++_, _∷_}
+use mathlib.Core.Path.{_∙_, _≡_, ap, sym}
+use Prim.Native.Nat.{_≤_, ℕ}
+use lib.IntN.{ℤ}
+use lib.ListN.{length, take}
+use Rattle.layout.specs.Tables.{Tables}
+use Rattle.layout.specs.Answers.{Answer, Message, accepted, most, prefixRead, wholeRead}
+use Rattle.layout.specs.Messages.ApiVersions as Api
+use Rattle.layout.proofs.Calls.{prefix-local}
+use Rattle.layout.proofs.Demand3.{at-most-one, era}
+use Rattle.api_versions.specs.Answers.{ofRequestReply, ofResponseReply}
+use Rattle.api_versions.specs.declared.RequestReply.{RequestReply}
+use Rattle.api_versions.proofs.RequestUnique as Request
+use Rattle.api_versions.proofs.Unique.{Told, response-unique, said}
+
+-- a reply, and the tables behind it, that `read_whole` may give where it is lent the tables of items and tags; what `read_answer` promises is the same
+abbrev pub WholeRead : List ℕ → ℤ → List ℕ × List ℕ → Told → Type 0
+WholeRead msg v lent x = said x ≡ wholeRead Api.response v (lent .0 ∷ lent .1 ∷ []) msg
+
+abbrev pub PrefixRead : List ℕ → ℤ → List ℕ × List ℕ → Told → Type 0
+PrefixRead msg v lent x = said x ≡ prefixRead Api.response v (lent .0 ∷ lent .1 ∷ []) msg
+
+-- the reply accepts, with n bytes used
+abbrev pub Accepts : Told → ℕ → Type 0
+Accepts x n = (r : List ℕ) × (ofResponseReply (x .0) ≡ accepted r n)
+
+whole-answer : (x : Told) (r : List ℕ) (n : ℕ) (o : Answer × Tables) → said x ≡ o → ofResponseReply (x .0) ≡ accepted r n → o ≡ (accepted r n, x .1 .0 ∷ x .1 .1 ∷ [])
+whole-answer x r n o e a = sym e ∙ ap (λ (y : Answer). (y, x .1 .0 ∷ x .1 .1 ∷ [])) a
+
+-- at most one of the layouts accepts the body, whatever tables are lent
+pub one-layout : (msg : List ℕ) (v w : ℤ) (lent lent′ : List ℕ × List ℕ) (x y : Told) (n k : ℕ) →
+    WholeRead msg v lent x → WholeRead msg w lent′ y → Accepts x n → Accepts y k → era v ≡ era w
+one-layout msg v w lent lent′ x y n k p q a b =
+    at-most-one v w msg _ _ (a .0) (b .0) n k _ _ (whole-answer x (a .0) n _ p (a .1)) (whole-answer y (b .0) k _ q (b .1))
+
+-- ---- with other bytes behind the used ones the reply and the tables are the same
+
+module _ {R : Type 0} (say : R → Answer × Tables) (only : (o : Answer × Tables) (x y : R) → say x ≡ o → say y ≡ o → x ≡ y) (m : Message) where
+  local-reply : (msg behind : List ℕ) (v : ℤ) (lent : Tables) (x y : R) (r : List ℕ) (n : ℕ) (after : Tables) →
+      say x ≡ prefixRead m v lent msg → say x ≡ (accepted r n, after) → length (take n msg ++ behind) ≤ most → say y ≡ prefixRead m v lent (take n msg ++ behind) → y ≡ x
+  local-reply msg behind v lent x y r n after p a h q = only _ y x q (a ∙ sym (prefix-local m v lent msg behind r n after (sym p ∙ a) h))
+
+-- `response::read`
+pub response-local : (msg behind : List ℕ) (v : ℤ) (lent : List ℕ × List ℕ) (x y : Told) (n : ℕ) →
+    PrefixRead msg v lent x → Accepts x n → length (take n msg ++ behind) ≤ most → PrefixRead (take n msg ++ behind) v lent y → y ≡ x
+response-local msg behind v lent x y n p a h q =
+    local-reply said response-unique Api.response msg behind v _ x y (a .0) n (x .1 .0 ∷ x .1 .1 ∷ []) p (ap (λ (z : Answer). (z, x .1 .0 ∷ x .1 .1 ∷ [])) (a .1)) h q
+
+-- `request::read`
+pub request-local : (msg behind : List ℕ) (v : ℤ) (lent : List ℕ) (x y : RequestReply × List ℕ) (r : List ℕ) (n : ℕ) →
+    Request.said x ≡ prefixRead Api.request v (lent ∷ []) msg → ofRequestReply (x .0) ≡ accepted r n → length (take n msg ++ behind) ≤ most →
+    Request.said y ≡ prefixRead Api.request v (lent ∷ []) (take n msg ++ behind) → y ≡ x
+request-local msg behind v lent x y r n p a h q =
+    local-reply Request.said Request.request-unique Api.request msg behind v _ x y r n (x .1 ∷ []) p (ap (λ (z : Answer). (z, x .1 ∷ [])) a) h q
