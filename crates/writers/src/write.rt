@@ -20,7 +20,7 @@ use primitives::at;
 use primitives::no_room;
 
 // The cell of a signed number: its 64 bits.
-fn cell(value: i64) -> u64
+pub fn cell(value: i64) -> u64
     ensures { λ r. ⌜ r ≡ cellOf value ⌝ }
 {
     if value >= 0 {
