@@ -35,7 +35,7 @@ module _ (items : List ℕ) (key : ℕ) where
     next = sym (ap (firstRow key) (drop-cons rows i [] (omega (arith, rows-many 4 items)))) ∙ a .same
 
     front : getD row 0 0 ≡ getD items (i * 4) 0
-    front = row-cell 4 items i 0 h (lit< tt) ∙ ap (λ (k : ℕ). getD items k 0) (add-zero (i * 4))
+    front = row-cell 4 items i h 0 (lit< tt) ∙ ap (λ (k : ℕ). getD items k 0) (add-zero (i * 4))
 
     pub searched-next : getD items (i * 4) 0 ≢ key → Searched (i + 1)
     unfolding firstRow
@@ -50,7 +50,7 @@ module _ (items : List ℕ) (key : ℕ) where
 
     pub searched-found : getD items (i * 4) 0 ≡ key → some (getD items (i * 4 + 1) 0, getD items (i * 4 + 2) 0) ≡ rangeOf key items
     unfolding rangeOf
-    searched-found e = sym (λ t. some (row-cell 4 items i 1 h (lit< tt) t, row-cell 4 items i 2 h (lit< tt) t)) ∙ ap rangeIn (found e)
+    searched-found e = sym (λ t. some (row-cell 4 items i h 1 (lit< tt) t, row-cell 4 items i h 2 (lit< tt) t)) ∙ ap rangeIn (found e)
 
   pub searched-none : (i : ℕ) → Searched i → length items / 4 ≤ i → none ≡ rangeOf key items
   unfolding firstRow rangeOf

@@ -29,3 +29,9 @@ pub mod Chunks
 pub mod Fields
 -- the whole reply of a read with one table
 pub mod OneTable
+-- all rows of a table judged
+pub mod Judged
+-- items taken from tables one behind the other
+pub mod Times
+-- faults that all have the same number
+pub mod Faults

@@ -16,11 +16,11 @@ use Rattle.layout.specs.Tables.{Tables, all, asked, basicOf, addsUp, chunks, co
 use Rattle.layout.specs.Write.{basicFault, each, fault, firstOf, or, sizedFault, unless, write, writeBasic}
 use Rattle.layout.proofs.Sums.{sum-zero}
 use Rattle.layout.proofs.Tests.{lt-true, of-eq}
+use Rattle.rows.proofs.Chunks.{rows-many}
+use Rattle.rows.proofs.Judged.{all-eq}
+use Rattle.tags_written.proofs.Meaning.{meaning, tag, tags-bytes, tags-clean, tags-value}
 use Rattle.tags_written.specs.Tags.{allRanged, ranged, rowBytes, rowsBytes, tagBytes, tagsBytes, tagsGood}
 use Rattle.writers.specs.Put.{behindLength}
-
-abbrev tag : Shape
-tag = field natural (field (blob plain) end)
 
 abbrev tags : Shape
 tags = array plain 1 tag end
@@ -30,20 +30,6 @@ unfolding shape at tagRows stands standing
 is-tags = refl
 
 -- ---- 13
-
-all-eq : {A : Type 0} (p q : A → Bool) → ((x : A) → p x ≡ q x) → (xs : List A) → all p xs ≡ all q xs
-unfolding all
-all-eq p q h [] = refl
-all-eq p q h (x ∷ xs) = ap₂ (λ (a b : Bool). a && b) (h x) (all-eq p q h xs)
-
-chunks-many : (n w : ℕ) (cs : List ℕ) → length (chunks n w cs) ≡ n
-unfolding chunks
-chunks-many zero w cs = refl
-chunks-many (suc n) w cs = ap suc (chunks-many n w (drop w cs))
-
-pub rows-many : (cs : List ℕ) → length (rowsOf 3 cs) ≡ length cs / 3
-unfolding rowsOf
-rows-many cs = chunks-many (length cs / 3) 3 cs
 
 row-good : (size : ℕ) (r : List ℕ) → goodRow size tag r ≡ ranged size r
 unfolding goodRow goodCells goodSpan ranged width
@@ -56,7 +42,7 @@ asks-none r = refl
 module _ (size c : ℕ) (table : List ℕ) where
   is-good : good size 1 tags ((c ∷ []) ∷ table ∷ []) ≡ tagsGood size c table
   unfolding good tagsGood allRanged addsUp all from sum rowsAt kindOf kindIn arrays asked goodRow rowWidth width
-  is-good = rw (and-true (goodCount true c), and-true (all (goodRow size tag) (rowsOf 3 table)), all-eq (goodRow size tag) (ranged size) (row-good size) (rowsOf 3 table), sum-zero (asked 1 tag) asks-none (rowsOf 3 table), rows-many table)
+  is-good = rw (and-true (goodCount true c), and-true (all (goodRow size tag) (rowsOf 3 table)), all-eq (goodRow size tag) (ranged size) (row-good size) (rowsOf 3 table), sum-zero (asked 1 tag) asks-none (rowsOf 3 table), rows-many 3 table)
       (ap (λ (b : Bool). goodCount true c && (all (ranged size) (rowsOf 3 table) && b)) (and-true _ ∙ ap (λ (n : ℕ). eqb n (length table / 3)) no-more))
     where
       no-more : count c + 0 + (0 + 0) ≡ count c
@@ -70,66 +56,23 @@ module _ (size c : ℕ) (table : List ℕ) where
       second true b e = e
       second false b e = let z : _≡_ {A = ℕ} 0 1 = cc in absurd (omega arith)
 
-module _ (lent : List ℕ) where
-  -- the value of a row
-  abbrev meaning : List ℕ → Value (List ℕ) tag
-  meaning r = (getD r 0 0, (slice lent (getD r 1 0, getD r 2 0), tt))
+-- ---- the whole value, where the count is that of the rows
 
-  one : (cs : List ℕ) → valueOf lent tag 1 ([] ∷ cs ∷ []) ≡ (meaning (take 3 cs), [] ∷ drop 3 cs ∷ [])
-  unfolding valueOf pop width basicOf spanOf
-  one [] = refl
-  one (a ∷ []) = refl
-  one (a ∷ b ∷ []) = refl
-  one (a ∷ b ∷ c ∷ cs) = refl
+module _ (lent : List ℕ) (c : ℕ) (table : List ℕ) (h : count c ≡ length table / 3) where
+  abbrev lentRows : Tables
+  lentRows = (c ∷ []) ∷ table ∷ []
 
-  many : (n : ℕ) (cs : List ℕ) → times n (valueOf lent tag 1) ([] ∷ cs ∷ []) .0 ≡ map meaning (chunks n 3 cs)
-  unfolding times chunks
-  many zero cs = refl
-  many (suc n) cs = rw (one cs) (ap (λ (xs : List (Value (List ℕ) tag)). meaning (take 3 cs) ∷ xs) (many n (drop 3 cs)))
+  value : meant lent lentRows tags ≡ (map (meaning lent) (rowsOf 3 table), tt)
+  unfolding meant valueOf pop itemsOf rowsOf
+  value = rw h (λ i. (tags-value lent 1 (length table / 3) ([] ∷ table ∷ []) (lit< tt) i .0, tt))
 
-  -- ---- its bytes
+  is-body : body lent lentRows tags ≡ tagsBytes lent table
+  unfolding body write
+  is-body = rw value (append-nil _ ∙ tags-bytes lent table)
 
-  bytes-of : (r : List ℕ) → write tag (meaning r) ≡ rowBytes lent r
-  unfolding write writeBasic sizedBytes rowBytes tagBytes behindLength
-  bytes-of r = ap (λ (s : List ℕ). unsignedBytes (getD r 0 0) ++ s) (append-nil _)
-
-  all-bytes : (rs : List (List ℕ)) → each (write tag) (map meaning rs) ≡ each (rowBytes lent) rs
-  unfolding each
-  all-bytes [] = refl
-  all-bytes (r ∷ rs) = ap₂ (λ (x y : List ℕ). x ++ y) (bytes-of r) (all-bytes rs)
-
-  -- ---- no fault: a cell is below 2^64, and so is the size of what is lent
-
-  no-fault-of : (r : List ℕ) → getD r 0 0 < 2 ^ 64 → length lent < 2 ^ 64 → fault tag (meaning r) ≡ 0
-  unfolding fault basicFault sizedFault unless or slice
-  no-fault-of r h i = rw (lt-true (getD r 0 0) (2 ^ 64) h, lt-true (length (take (getD r 2 0) (drop (getD r 1 0) lent))) (2 ^ 64) (omega (arith, length-take (getD r 2 0) (drop (getD r 1 0) lent), length-drop (getD r 1 0) lent)))
-
-  no-faults : (n : ℕ) (cs : List ℕ) → ((i : ℕ) → getD cs i 0 < 2 ^ 64) → length lent < 2 ^ 64 → firstOf (fault tag) (map meaning (chunks n 3 cs)) ≡ 0
-  unfolding firstOf or chunks
-  no-faults zero cs h i = refl
-  no-faults (suc n) cs h i =
-      rw (no-fault-of (take 3 cs) (omega (arith, getD-take 3 cs 0 0 (lit< tt), h 0)) i) (no-faults n (drop 3 cs) (λ j. omega (arith, getD-drop 3 cs j 0, h (3 + j))) i)
-
-  -- ---- the whole value, where the count is that of the rows
-
-  module _ (c : ℕ) (table : List ℕ) (h : count c ≡ length table / 3) where
-    abbrev lentRows : Tables
-    lentRows = (c ∷ []) ∷ table ∷ []
-
-    value : meant lent lentRows tags ≡ (map meaning (rowsOf 3 table), tt)
-    unfolding meant valueOf pop itemsOf rowsOf
-    value = rw h (λ i. (many (length table / 3) table i, tt))
-
-    few : length (map meaning (rowsOf 3 table)) ≡ length table / 3
-    few = length-map (rowsOf 3 table) meaning ∙ rows-many table
-
-    is-body : body lent lentRows tags ≡ tagsBytes lent table
-    unfolding body write sizedBytes lengthBytes tagsBytes rowsBytes
-    is-body = rw value (append-nil _ ∙ ap₂ (λ (n : ℕ) (s : List ℕ). unsignedBytes n ++ s) few (all-bytes (rowsOf 3 table)))
-
-    is-clean : ((i : ℕ) → getD table i 0 < 2 ^ 64) → length table < 2 ^ 64 → length lent < 2 ^ 64 → fault tags (meant lent lentRows tags) ≡ 0
-    unfolding fault sizedFault or unless rowsOf
-    is-clean f t l = rw (value, few, lt-true (length table / 3) (2 ^ 64) (omega arith), no-faults (length table / 3) table f l)
+  is-clean : ((i : ℕ) → getD table i 0 < 2 ^ 64) → length table < 2 ^ 64 → length lent < 2 ^ 64 → fault tags (meant lent lentRows tags) ≡ 0
+  unfolding fault or rowsOf
+  is-clean f t l = rw (value, tags-clean lent (length table / 3) table (omega arith) f l)
 
 -- ---- the answer
 

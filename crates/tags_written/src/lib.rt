@@ -1,14 +1,14 @@
-// Tagged fields written by a call of their own: the rows of a table, each a tag with a part of the lent bytes.
+// Tagged fields written: the rows of a table, each a tag with a part of the lent bytes. By a call of their own, or in a body.
+// One walk, run twice: over no room it only counts the bytes.
 ghost use mathlib.Core.Path.{_≡_};
-ghost use mathlib.Core.Bool.{true};
 ghost use mathlib.Core.List.{[], _∷_};
 ghost use lib.IntN.{pos};
 ghost use lib.ListN.{getD, length};
-ghost use Prim.Native.Nat.{_+_, _/_, _<_, _≤_};
+ghost use Prim.Native.Nat.{_/_, _<_};
 ghost use Rattle.layout.specs.Answers.{tagsAlone, writeAnswer};
 ghost use Rattle.layout.specs.Primitives.{plain};
-ghost use Rattle.layout.specs.Tables.{count, inside, rowsOf};
-ghost use Rattle.rows.specs.Step.{Step, cap};
+ghost use Rattle.layout.specs.Tables.{count, inside, rowsOf, slice};
+ghost use Rattle.rows.specs.Step.{Capped, Step};
 ghost use Rattle.writers.specs.Put.{behindLength, replied};
 ghost use Rattle.tags_written.specs.Tags.{allRanged, rowBytes, rowsBytes, tagBytes, tagsBytes, tagsGood};
 use primitives::BAD_TABLES;
@@ -22,7 +22,7 @@ use writers::put;
 // ---- 13
 
 // Are n bytes from `start` on inside so many? No sum, which could wrap.
-fn is_inside(size: usize, start: u64, n: u64) -> bool
+pub fn is_inside(size: usize, start: u64, n: u64) -> bool
     ensures { λ r. ⌜ r ≡ inside size start n ⌝ }
 {
     let all = size as u64;
@@ -33,7 +33,7 @@ fn is_inside(size: usize, start: u64, n: u64) -> bool
 }
 
 // Are the data of all rows inside?
-fn all_ranged(size: usize, table: &[u64]) -> bool
+pub fn all_ranged(size: usize, table: &[u64]) -> bool
     ensures { λ r. ⌜ r ≡ allRanged size (now (table .entry)) ⌝ }
 {
     let n = table.len() / 3;
@@ -48,7 +48,7 @@ fn all_ranged(size: usize, table: &[u64]) -> bool
 }
 
 // The rows that a count tells: the cell of -1, for unset, tells none.
-fn rows_told(c: u64) -> u64
+pub fn rows_told(c: u64) -> u64
     ensures { λ r. ⌜ r ≡ count c ⌝ }
 {
     if c == 18446744073709551615 {
@@ -58,7 +58,7 @@ fn rows_told(c: u64) -> u64
 }
 
 // The table has the rows that the count tells, and all data are inside.
-fn is_good(size: usize, count: u64, table: &[u64]) -> bool
+pub fn is_good(size: usize, count: u64, table: &[u64]) -> bool
     ensures { λ r. ⌜ r ≡ tagsGood size count (now (table .entry)) ⌝ }
 {
     if rows_told(count) != (table.len() / 3) as u64 {
@@ -69,7 +69,20 @@ fn is_good(size: usize, count: u64, table: &[u64]) -> bool
 
 // ---- the walk
 
-// The place behind n bytes, or the end where there is no room for them.
+// n bytes of the lent ones from `start` on; those past the end are not there.
+pub fn part(lent: &[u8], start: u64, n: u64) -> &[u8]
+    ensures { λ r. ⌜ now r ≡ slice (now (lent .entry)) (start, n) ⌝ }
+{
+    if (lent.len() as u64) < start {
+        return &lent[lent.len()..];
+    }
+    let from = start as usize;
+    if ((lent.len() - from) as u64) < n {
+        return &lent[from..];
+    }
+    &lent[from..from + n as usize]
+}
+
 // Data behind their length.
 fn put_data(out: &mut [u8], content: &[u8]) -> usize
     ensures { λ r. ⌜ Step (behindLength plain (now (content .entry))) (now (out .entry)) r (now (out .exit)) ⌝ }
@@ -81,33 +94,25 @@ fn put_data(out: &mut [u8], content: &[u8]) -> usize
 }
 
 // A tag, and n bytes of the lent ones from `start` on as its data.
-fn put_tag(out: &mut [u8], lent: &[u8], tag: u64, start: usize, n: usize) -> usize
-    requires { ⌜ start + n ≤ length (now lent) ⌝ }
-    ensures { λ r. ⌜ Step (tagBytes (now (lent .entry)) tag start n) (now (out .entry)) r (now (out .exit)) ⌝ }
+fn put_tag(out: &mut [u8], lent: &[u8], tag: u64, start: u64, n: u64) -> usize
+    ensures { λ r. ⌜ Capped (tagBytes (now (lent .entry)) tag start n) (now (out .entry)) r (now (out .exit)) ⌝ }
 {
     let a = put::unsigned_varint(out, tag);
     let p = put::behind(a, out.len());
-    let b = put_data(&mut out[p..], &lent[start..start + n]);
-    a + b
+    let b = put_data(&mut out[p..], part(lent, start, n));
+    put::add(a, b)
 }
 
 fn put_row(out: &mut [u8], lent: &[u8], table: &[u64], i: usize) -> usize
-    requires { ⌜ (i < length (now table) / 3) × (allRanged (length (now lent)) (now table) ≡ true) ⌝ }
-    ensures { λ r. ⌜ Step (rowBytes (now (lent .entry)) (getD (rowsOf 3 (now (table .entry))) i [])) (now (out .entry)) r (now (out .exit)) ⌝ }
+    requires { ⌜ i < length (now table) / 3 ⌝ }
+    ensures { λ r. ⌜ Capped (rowBytes (now (lent .entry)) (getD (rowsOf 3 (now (table .entry))) i [])) (now (out .entry)) r (now (out .exit)) ⌝ }
 {
-    put_tag(
-        out,
-        lent,
-        table[i * 3],
-        table[i * 3 + 1] as usize,
-        table[i * 3 + 2] as usize,
-    )
+    put_tag(out, lent, table[i * 3], table[i * 3 + 1], table[i * 3 + 2])
 }
 
-// Row behind row. The limit keeps the sum from wrapping.
+// Row behind row.
 fn put_tags(out: &mut [u8], lent: &[u8], table: &[u64]) -> usize
-    requires { ⌜ (allRanged (length (now lent)) (now table) ≡ true) × (length (rowsBytes (now lent) (now table)) ≤ 1048576) ⌝ }
-    ensures { λ r. ⌜ Step (rowsBytes (now (lent .entry)) (now (table .entry))) (now (out .entry)) r (now (out .exit)) ⌝ }
+    ensures { λ r. ⌜ Capped (rowsBytes (now (lent .entry)) (now (table .entry))) (now (out .entry)) r (now (out .exit)) ⌝ }
 {
     let n = table.len() / 3;
     let mut done: usize = 0;
@@ -115,52 +120,20 @@ fn put_tags(out: &mut [u8], lent: &[u8], table: &[u64]) -> usize
     while i < n {
         let p = put::behind(done, out.len());
         let more = put_row(&mut out[p..], lent, table, i);
-        done = done + more;
+        done = put::add(done, more);
         i = i + 1;
     }
     done
 }
 
-// The number of rows in front of them.
-fn put_fields(out: &mut [u8], lent: &[u8], table: &[u64]) -> usize
-    requires { ⌜ (allRanged (length (now lent)) (now table) ≡ true) × (length (tagsBytes (now lent) (now table)) ≤ 1048576) ⌝ }
-    ensures { λ r. ⌜ Step (tagsBytes (now (lent .entry)) (now (table .entry))) (now (out .entry)) r (now (out .exit)) ⌝ }
+// The number of the table's rows, and all of them behind it.
+pub fn tag_buffer(out: &mut [u8], lent: &[u8], table: &[u64]) -> usize
+    ensures { λ r. ⌜ Capped (tagsBytes (now (lent .entry)) (now (table .entry))) (now (out .entry)) r (now (out .exit)) ⌝ }
 {
     let a = put::unsigned_varint(out, (table.len() / 3) as u64);
     let p = put::behind(a, out.len());
     let b = put_tags(&mut out[p..], lent, table);
-    a + b
-}
-
-// ---- how many bytes it would be
-
-fn row_size(lent: &[u8], table: &[u64], i: usize) -> usize
-    requires { ⌜ (i < length (now table) / 3) × (allRanged (length (now lent)) (now table) ≡ true) ⌝ }
-    ensures { λ r. ⌜ r ≡ length (rowBytes (now (lent .entry)) (getD (rowsOf 3 (now (table .entry))) i [])) ⌝ }
-{
-    let a = put::varint_length(table[i * 3]);
-    let n = table[i * 3 + 2];
-    let b = put::varint_length(n);
-    a + b + n as usize
-}
-
-// Above the limit it stops counting: rows may share lent bytes, and their sum has no bound.
-fn size(lent: &[u8], table: &[u64]) -> usize
-    requires { ⌜ allRanged (length (now lent)) (now table) ≡ true ⌝ }
-    ensures { λ r. ⌜ r ≡ cap (length (tagsBytes (now (lent .entry)) (now (table .entry)))) ⌝ }
-{
-    let n = table.len() / 3;
-    let mut all = put::varint_length(n as u64);
-    let mut i: usize = 0;
-    while i < n {
-        let more = row_size(lent, table, i);
-        all = all + more;
-        if MOST < all {
-            return MOST + 1;
-        }
-        i = i + 1;
-    }
-    all
+    put::add(a, b)
 }
 
 // ---- the call
@@ -172,13 +145,13 @@ pub fn tagged_fields(out: &mut [u8], lent: &[u8], count: u64, table: &[u64]) -> 
     if !is_good(lent.len(), count, table) {
         return Written::Refused(at(BAD_TABLES, 0));
     }
-    let all = size(lent, table);
+    let all = tag_buffer(&mut out[..0], lent, table);
     if MOST < all {
         return Written::Refused(at(TOO_LONG, 0));
     }
     if out.len() < all {
         return Written::Refused(no_room(all));
     }
-    put_fields(out, lent, table);
+    tag_buffer(out, lent, table);
     Written::Wrote(all)
 }

@@ -53,7 +53,7 @@ fn answer(room: usize, n: usize) -> Written
 }
 
 // Does the cell hold a number from -half to half - 1?
-fn fits(c: u64, half: u64) -> bool
+pub fn fits(c: u64, half: u64) -> bool
     ensures { λ r. ⌜ r ≡ within half c ⌝ }
 {
     if c < half {

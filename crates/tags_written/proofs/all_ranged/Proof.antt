@@ -1,18 +1,20 @@
 use borrow.Author.Needs.{needs}
 use borrow.Author.Tests.{not-false, not-true}
 use Prim.Native.Nat.{_-_}
-use Rattle.tags_written.proofs.Walk.{Judged, judged-start, judged-more, judged-stop, judged-end}
+use Rattle.rows.proofs.Judged.{Judged, judged-end, judged-more, judged-start, judged-stop}
+use Rattle.tags_written.specs.Tags.{allRanged, ranged}
+use Rattle.tags_written.proofs.Walk.{range-told}
 use Rattle.tags_written.proofs.all_ranged.Statement.{statement}
 use Rattle.tags_written.proofs.all_ranged.Tie as tie
 
 abbrev Inv-loop : tie.InvT-loop
-Inv-loop size table n i₀ i = Judged size table i
+Inv-loop size table n i₀ i = Judged (ranged size) 3 table i
 
 abbrev μ-loop : tie.MeasureT-loop
 μ-loop size table n i₀ i = n - i
 
 loop-holds : tie.Need-loop-holds Inv-loop μ-loop
-loop-holds c = judged-start _ _
+loop-holds c = judged-start _ _ _
 
 mul-is-inside : tie.Need-mul-is-inside Inv-loop μ-loop
 mul-is-inside c = search needs
@@ -42,7 +44,8 @@ is-inside-requires : tie.Need-is-inside-requires Inv-loop μ-loop
 is-inside-requires c κs = search needs
 
 returns : tie.Need-returns Inv-loop μ-loop
-returns c = judged-stop _ _ _ (c .before .before .before .before .before .loop .inv) (c .before .before .before .before .loop-test .taken) _ (c .before .is-inside .ensures) (not-true _ (c .if1 .taken))
+unfolding allRanged
+returns c = judged-stop _ _ _ _ (c .before .before .before .before .before .loop .inv) (c .before .before .before .before .loop-test .taken) _ (range-told _ _ (c .before .before .before .before .loop-test .taken) _ _ (c .before .is-inside .ensures)) (not-true _ (c .if1 .taken))
 
 add-i : tie.Need-add-i Inv-loop μ-loop
 add-i c = search needs
@@ -51,10 +54,11 @@ loop-less : tie.Need-loop-less Inv-loop μ-loop
 loop-less c = search needs
 
 loop-again : tie.Need-loop-again Inv-loop μ-loop
-loop-again c = judged-more _ _ _ (c .before .before .before .before .before .loop .inv) (c .before .before .before .before .loop-test .taken) _ (c .before .is-inside .ensures) (not-false _ (c .if1 .left))
+loop-again c = judged-more _ _ _ _ (c .before .before .before .before .before .loop .inv) (c .before .before .before .before .loop-test .taken) _ (range-told _ _ (c .before .before .before .before .loop-test .taken) _ _ (c .before .is-inside .ensures)) (not-false _ (c .if1 .left))
 
 returns-2 : tie.Need-returns-2 Inv-loop μ-loop
-returns-2 c = search (needs, judged-end)
+unfolding allRanged
+returns-2 c = judged-end _ _ _ _ (c .before .loop .inv) (c .loop-test .left)
 
 pub all-ranged-spec : {M : Type 1} → statement M
 all-ranged-spec =

@@ -1,4 +1,5 @@
-use Rattle.tags_written.proofs.Walk.{row-put, in-range}
+-- The row's cells stand in the table from three times its number on.
+use Rattle.tags_written.proofs.Walk.{row-put}
 use borrow.Author.Needs.{needs}
 use Rattle.tags_written.proofs.put_row.Statement.{statement}
 use Rattle.tags_written.proofs.put_row.Tie as tie
@@ -37,7 +38,7 @@ shared-slice-read-put-tag-3 : tie.Need-shared-slice-read-put-tag-3
 shared-slice-read-put-tag-3 c = search needs
 
 put-tag-requires : tie.Need-put-tag-requires
-put-tag-requires c κs = in-range _ _ _ (c .before .before .before .before .before .before .before .pre .0) (c .before .before .before .before .before .before .before .pre .1)
+put-tag-requires c κs = search needs
 
 same-length : tie.Need-same-length
 same-length c = search needs

@@ -1,7 +1,4 @@
-use native.Mathlib.Omega.{arith}
-use Rattle.writers.proofs.Shortest.{unsigned-length}
-use Rattle.tags_written.proofs.Walk.{part-small}
-use Prim.Native.Nat.{_+_, _-_}
+-- The data go to the rest behind the tag.
 use Rattle.tags_written.proofs.Walk.{tag-put}
 use borrow.Author.Needs.{needs}
 use Rattle.tags_written.proofs.put_tag.Statement.{statement}
@@ -22,23 +19,14 @@ part-put-data-start c = search needs
 part-put-data-end : tie.Need-part-put-data-end
 part-put-data-end c = search needs
 
-add-put-data : tie.Need-add-put-data
-add-put-data c = search needs
-
-sub-put-data-2 : tie.Need-sub-put-data-2
-sub-put-data-2 c = search needs
-
-part-put-data-start-2 : tie.Need-part-put-data-start-2
-part-put-data-start-2 c = search needs
-
-part-put-data-end-2 : tie.Need-part-put-data-end-2
-part-put-data-end-2 c = search needs
+part-requires : tie.Need-part-requires
+part-requires c κs = search needs
 
 put-data-requires : tie.Need-put-data-requires
 put-data-requires c κs = search needs
 
-add-result : tie.Need-add-result
-add-result c = omega (arith, c .before .before .before .before .before .before .before .before .unsigned-varint .ensures .count, c .before .before .put-data .ensures .count, unsigned-length (c .before .before .before .before .before .before .before .before .before .before .before .before .args .tag), part-small (c .before .before .before .before .before .before .before .before .before .before .before .before .args .lent .now) (c .before .before .before .before .before .before .before .before .before .before .before .before .args .start) (c .before .before .before .before .before .before .before .before .before .before .before .before .args .start + c .before .before .before .before .before .before .before .before .before .before .before .before .args .n - c .before .before .before .before .before .before .before .before .before .before .before .before .args .start))
+add-requires : tie.Need-add-requires
+add-requires c κs = search needs
 
 same-length : tie.Need-same-length
 same-length c = search needs
@@ -55,11 +43,8 @@ put-tag-spec =
     sub-put-data
     part-put-data-start
     part-put-data-end
-    add-put-data
-    sub-put-data-2
-    part-put-data-start-2
-    part-put-data-end-2
+    part-requires
     put-data-requires
-    add-result
+    add-requires
     same-length
     returns)

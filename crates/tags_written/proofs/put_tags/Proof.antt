@@ -1,7 +1,7 @@
-use native.Mathlib.Omega.{arith}
+-- Before each turn the first i rows stand there.
 use borrow.Author.Needs.{needs}
 use Prim.Native.Nat.{_-_}
-use Rattle.tags_written.proofs.Walk.{Walked, walked-start, walked-more, walked-small, walked-end}
+use Rattle.tags_written.proofs.Walk.{Walked, walked-end, walked-more, walked-start}
 use Rattle.tags_written.proofs.put_tags.Statement.{statement}
 use Rattle.tags_written.proofs.put_tags.Tie as tie
 
@@ -29,8 +29,8 @@ part-put-row-end c = search needs
 put-row-requires : tie.Need-put-row-requires Inv-loop μ-loop
 put-row-requires c κs = search needs
 
-add-done : tie.Need-add-done Inv-loop μ-loop
-add-done c = omega (arith, walked-small _ _ _ (c .before .before .before .before .before .before .loop .inv) (c .before .before .before .before .before .loop-test .taken) (c .before .before .before .before .before .before .before .before .before .before .pre .1) (c .before .before .put-row .ensures))
+add-requires : tie.Need-add-requires Inv-loop μ-loop
+add-requires c κs = search needs
 
 add-i : tie.Need-add-i Inv-loop μ-loop
 add-i c = search needs
@@ -59,7 +59,7 @@ put-tags-spec =
     part-put-row-start
     part-put-row-end
     put-row-requires
-    add-done
+    add-requires
     add-i
     loop-less
     loop-again

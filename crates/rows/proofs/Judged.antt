@@ -1,0 +1,50 @@
+-- All of a list judged one by one, as a loop does it that stops at the first that is not good.
+use mathlib.Core.Bool.{Bool, _&&_, false, true}
+use mathlib.Core.List.{List, [], _∷_}
+use mathlib.Core.Path.{_∙_, _≡_, ap, ap₂, refl, sym}
+use Prim.Native.Nat.{_+_, _/_, _<_, _≤_, suc, ℕ}
+use native.Mathlib.Numerals.{add-one}
+use native.Mathlib.Omega.{arith}
+use lib.ListN.{drop, drop-of-length-le, getD, length}
+use lib.Seq.{drop-cons}
+use Rattle.layout.specs.Tables.{all, rowsOf}
+use Rattle.rows.proofs.Chunks.{rows-many}
+
+pub both : (a b : Bool) → (a && b) ≡ true → (a ≡ true) × (b ≡ true)
+both true b e = (refl, e)
+both false b e = let z : _≡_ {A = ℕ} 0 1 = cc in absurd (omega arith)
+
+pub all-eq : {A : Type 0} (p q : A → Bool) → ((x : A) → p x ≡ q x) → (xs : List A) → all p xs ≡ all q xs
+unfolding all
+all-eq p q h [] = refl
+all-eq p q h (x ∷ xs) = ap₂ (λ (a b : Bool). a && b) (h x) (all-eq p q h xs)
+
+-- the first i rows of width w are good, and those left decide
+pub record Judged (p : List ℕ → Bool) (w : ℕ) (table : List ℕ) (i : ℕ) : Type 0 where
+  pub below : i ≤ length table / w
+  pub same : all p (drop i (rowsOf w table)) ≡ all p (rowsOf w table)
+
+module _ (p : List ℕ → Bool) (w : ℕ) (table : List ℕ) where
+  pub judged-start : Judged p w table 0
+  judged-start = record { below = omega arith; same = refl }
+
+  module _ (i : ℕ) (a : Judged p w table i) (h : i < length table / w) (b : Bool) (e : b ≡ p (getD (rowsOf w table) i [])) where
+    split : all p (drop i (rowsOf w table)) ≡ (p (getD (rowsOf w table) i []) && all p (drop (suc i) (rowsOf w table)))
+    unfolding all
+    split = ap (all p) (drop-cons (rowsOf w table) i [] (omega (arith, rows-many w table)))
+
+    pub judged-more : b ≡ true → Judged p w table (i + 1)
+    judged-more t = record {
+      below = omega arith;
+      same =
+          ap (λ (k : ℕ). all p (drop k (rowsOf w table))) (add-one i)
+          ∙ sym (split ∙ ap (λ (b : Bool). b && all p (drop (suc i) (rowsOf w table))) (sym e ∙ t))
+          ∙ a .same;
+    }
+
+    pub judged-stop : b ≡ false → false ≡ all p (rowsOf w table)
+    judged-stop t = sym (split ∙ ap (λ (b : Bool). b && all p (drop (suc i) (rowsOf w table))) (sym e ∙ t)) ∙ a .same
+
+  pub judged-end : (i : ℕ) → Judged p w table i → length table / w ≤ i → true ≡ all p (rowsOf w table)
+  unfolding all
+  judged-end i a h = sym (ap (all p) (drop-of-length-le (rowsOf w table) {i = i} (omega (arith, rows-many w table)))) ∙ a .same

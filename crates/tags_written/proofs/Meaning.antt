@@ -1,0 +1,90 @@
+-- What rows of tags mean, in whatever table they stand: their values, the bytes of these, and that these have no fault.
+use mathlib.Core.Bool.{false}
+use mathlib.Core.List.{List, [], _++_, _∷_, append-nil, map}
+use mathlib.Core.Path.{_∙_, _≡_, ap, ap₂, refl, sym}
+use Prim.Native.Nat.{_*_, _+_, _/_, _<_, _^_, suc, zero, ℕ}
+use native.Mathlib.Omega.{arith}
+use lib.Dec.{lit<}
+use lib.ListN.{drop, getD, length, length-drop, length-map, length-set, length-take, set, take}
+use lib.Seq.{drop-drop, getD-drop, getD-set-same, getD-take, set-getD, set-set}
+use Rattle.layout.specs.Primitives.{lengthBytes, plain, sizedBytes, unsignedBytes}
+use Rattle.layout.specs.Rows.{Shape, Value, blob, end, field, natural}
+use Rattle.layout.specs.Tables.{Tables, basicOf, chunks, pop, rowsOf, slice, spanOf, times, valueOf, width}
+use Rattle.layout.specs.Write.{basicFault, each, fault, firstOf, or, sizedFault, unless, write, writeBasic}
+use Rattle.layout.proofs.Tests.{lt-true}
+use Rattle.rows.proofs.Chunks.{chunks-many, rows-many}
+use Rattle.writers.specs.Put.{behindLength}
+use Rattle.tags_written.specs.Tags.{rowBytes, rowsBytes, tagBytes, tagsBytes}
+
+-- a row of tags, where the version has them
+abbrev pub tag : Shape
+tag = field natural (field (blob plain) end)
+
+module _ (lent : List ℕ) where
+  -- the value of a row
+  abbrev pub meaning : List ℕ → Value (List ℕ) tag
+  meaning r = (getD r 0 0, (slice lent (getD r 1 0, getD r 2 0), tt))
+
+  same-cells : (cs : List ℕ) → _≡_ {A = Value (List ℕ) tag} (getD (take 1 cs) 0 0, (slice lent (getD (take 2 (drop 1 cs)) 0 0, getD (take 2 (drop 1 cs)) 1 0), tt)) (meaning (take 3 cs))
+  same-cells [] = refl
+  same-cells (a ∷ []) = refl
+  same-cells (a ∷ b ∷ []) = refl
+  same-cells (a ∷ b ∷ c ∷ cs) = refl
+
+  module _ (o : ℕ) where
+    tag-value : (st : Tables) → o < length st → valueOf lent tag o st ≡ (meaning (take 3 (getD st o [])), set st o (drop 3 (getD st o [])))
+    unfolding valueOf pop width basicOf spanOf
+    tag-value st h =
+        let cs : List ℕ = getD st o [] in
+        rw (getD-set-same st o (drop 1 cs) [] h, set-set st o (drop 1 cs) (drop 2 (drop 1 cs)))
+        (λ i. (same-cells cs i, set st o (drop-drop 2 1 cs i)))
+
+    -- n rows of table o
+    pub tags-value : (n : ℕ) (st : Tables) → o < length st → times n (valueOf lent tag o) st ≡ (map meaning (chunks n 3 (getD st o [])), set st o (drop (n * 3) (getD st o [])))
+    unfolding times chunks
+    tags-value zero st h = λ i. ([], sym (set-getD st o []) i)
+    tags-value (suc n) st h =
+        let cs : List ℕ = getD st o [] in
+        let su : Tables = set st o (drop 3 cs) in
+        let e : getD su o [] ≡ drop 3 cs = getD-set-same st o (drop 3 cs) [] h in
+        let r =
+        tags-value n su (omega (arith, length-set st o (drop 3 cs)))
+        ∙ (λ i. (map meaning (chunks n 3 (e i)), set su o (drop (n * 3) (e i))))
+        ∙ (λ i. (map meaning (chunks n 3 (drop 3 cs)), (set-set st o (drop 3 cs) (drop (n * 3) (drop 3 cs)) ∙ ap (set st o) (drop-drop (n * 3) 3 cs ∙ ap (λ (k : ℕ). drop k cs) next)) i))
+        in
+        rw (tag-value st h) (λ i. (meaning (take 3 cs) ∷ r i .0, r i .1))
+      where
+        next : 3 + n * 3 ≡ suc n * 3
+        next = omega arith
+
+  -- ---- the bytes
+
+  bytes-of : (r : List ℕ) → write tag (meaning r) ≡ rowBytes lent r
+  unfolding write writeBasic sizedBytes rowBytes tagBytes behindLength
+  bytes-of r = ap (λ (s : List ℕ). unsignedBytes (getD r 0 0) ++ s) (append-nil _)
+
+  all-bytes : (rs : List (List ℕ)) → each (write tag) (map meaning rs) ≡ each (rowBytes lent) rs
+  unfolding each
+  all-bytes [] = refl
+  all-bytes (r ∷ rs) = ap₂ (λ (x y : List ℕ). x ++ y) (bytes-of r) (all-bytes rs)
+
+  -- all rows of a table behind their number
+  pub tags-bytes : (table : List ℕ) → sizedBytes false plain (λ xs. each (write tag) xs) (map meaning (rowsOf 3 table)) ≡ tagsBytes lent table
+  unfolding sizedBytes lengthBytes tagsBytes rowsBytes
+  tags-bytes table = ap₂ (λ (n : ℕ) (s : List ℕ). unsignedBytes n ++ s) (length-map (rowsOf 3 table) meaning ∙ rows-many 3 table) (all-bytes (rowsOf 3 table))
+
+  -- ---- no fault: a cell is below 2^64, and so is the size of what is lent
+
+  no-fault-of : (r : List ℕ) → getD r 0 0 < 2 ^ 64 → length lent < 2 ^ 64 → fault tag (meaning r) ≡ 0
+  unfolding fault basicFault sizedFault unless or slice
+  no-fault-of r h i = rw (lt-true (getD r 0 0) (2 ^ 64) h, lt-true (length (take (getD r 2 0) (drop (getD r 1 0) lent))) (2 ^ 64) (omega (arith, length-take (getD r 2 0) (drop (getD r 1 0) lent), length-drop (getD r 1 0) lent)))
+
+  no-faults : (n : ℕ) (cs : List ℕ) → ((i : ℕ) → getD cs i 0 < 2 ^ 64) → length lent < 2 ^ 64 → firstOf (fault tag) (map meaning (chunks n 3 cs)) ≡ 0
+  unfolding firstOf or chunks
+  no-faults zero cs h i = refl
+  no-faults (suc n) cs h i =
+      rw (no-fault-of (take 3 cs) (omega (arith, getD-take 3 cs 0 0 (lit< tt), h 0)) i) (no-faults n (drop 3 cs) (λ j. omega (arith, getD-drop 3 cs j 0, h (3 + j))) i)
+
+  pub tags-clean : (n : ℕ) (cs : List ℕ) → n < 2 ^ 64 → ((i : ℕ) → getD cs i 0 < 2 ^ 64) → length lent < 2 ^ 64 → sizedFault false plain (λ xs. firstOf (fault tag) xs) (map meaning (chunks n 3 cs)) ≡ 0
+  unfolding sizedFault or unless
+  tags-clean n cs k h i = rw (length-map (chunks n 3 cs) meaning, chunks-many n 3 cs, lt-true n (2 ^ 64) k) (no-faults n cs h i)
