@@ -33,10 +33,10 @@ fn byte(b: u8) {
 }
 
 fn hex(s: &[u8]) {
-    let mut i: usize = 0;
-    while i < s.len() {
-        byte(s[i]);
-        i = i + 1;
+    let mut left = s;
+    while 0 < left.len() {
+        byte(left[0]);
+        left = &left[1..];
     }
     say(b"\n");
 }
