@@ -93,9 +93,18 @@ def tell(s, v, whole):
         print(f"    agreed on key {key}: {version} of {most}")
 
 
+def accepts(s, v):
+    try:
+        read(s, v, True)
+    except Refused:
+        return False
+    return True
+
+
 def body(name, text):
     s = bytes.fromhex(text)
     print(name + "".join(f" {b:02x}" for b in s))
+    print(f"  layouts that accept it: {sum(accepts(s, v) for v in (0, 1, 3))}")
     for whole in (True, False):
         for v in range(4):
             tell(s, v, whole)

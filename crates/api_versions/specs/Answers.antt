@@ -22,6 +22,11 @@ abbrev pub ofResponseReply : ResponseReply → Answer
 ofResponseReply (ResponseReply.Took x n) = accepted (ofResponse x) n
 ofResponseReply (ResponseReply.Refused e) = refused (ofRefusal e)
 
+-- 1 for a reply that accepts
+abbrev pub accepting : ResponseReply → ℕ
+accepting (ResponseReply.Took x n) = 1
+accepting (ResponseReply.Refused e) = 0
+
 -- the kind, 0 for absent or unset and 2 for present, and start and length
 abbrev pub ofText : Text → List ℕ
 ofText Text.Absent = 0 ∷ 0 ∷ 0 ∷ []

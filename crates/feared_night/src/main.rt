@@ -1,6 +1,9 @@
 // The feared night: a broker was swapped, and its ApiVersions answer has another version's layout.
 // Bodies of every layout, each read whole at every version, and then as the Rust reads it, to the end of what it wants: there some parse as a broker that offers nothing.
 // expected.py has what it must write, from the rules, by a reader of its own.
+ghost use mathlib.Core.Path.{_≡_};
+ghost use Prim.Native.Nat.{_≤_};
+ghost use Rattle.api_versions.specs.Answers.{accepting};
 use api_versions::ResponseBody;
 use api_versions::ResponseReply;
 use api_versions::Throttle;
@@ -156,9 +159,33 @@ fn prefix(msg: &[u8], version: i16, name: &[u8]) {
     told(response::read(msg, version, &mut items, &mut tags), &items);
 }
 
+fn accepts(r: ResponseReply) -> u64
+    ensures { λ n. ⌜ n ≡ accepting r ⌝ }
+{
+    match r {
+        ResponseReply::Took { body: _, used: _ } => 1,
+        ResponseReply::Refused(_) => 0,
+    }
+}
+
+// The feared night cannot come: of the three layouts at most one accepts the body, and this is proved.
+fn layouts(msg: &[u8], items: &mut [u64], tags: &mut [u64]) -> u64
+    ensures { λ n. ⌜ n ≤ 1 ⌝ }
+{
+    let bare = accepts(response::read_whole(msg, 0, items, tags));
+    let throttled = accepts(response::read_whole(msg, 1, items, tags));
+    let flexible = accepts(response::read_whole(msg, 3, items, tags));
+    bare + throttled + flexible
+}
+
 fn body(name: &[u8], msg: &[u8]) {
     say(name);
     hex(msg);
+    let mut items = [0u64; 12];
+    let mut tags = [0u64; 9];
+    say(b"  layouts that accept it: ");
+    decimal(layouts(msg, &mut items, &mut tags));
+    say(b"\n");
     whole(msg, 0, b"0");
     whole(msg, 1, b"1");
     whole(msg, 2, b"2");
