@@ -1,0 +1,2 @@
+-- responses row by row
+pub mod Responses

@@ -1,0 +1,121 @@
+-- ApiVersions responses row by row, as a walk over their tables writes them: what their bytes are, and what is refused with 13 and 11.
+-- `t`: the version has a throttle time; `f`: it is flexible. Assumes nothing.
+use mathlib.Core.Bool.{Bool, _&&_, cond, false, true}
+use mathlib.Core.List.{List, [], _++_, _∷_}
+use Prim.Native.Nat.{_*_, _+_, _-_, _/_, ℕ}
+use lib.Dec.{eqb, leb, ltb}
+use lib.IntN.{ℤ, negsuc, pos}
+use lib.ListN.{drop, getD, length, take}
+use Rattle.api_versions.specs.declared.Throttle.{Throttle}
+use Rattle.layout.specs.Primitives.{Size, bytes, compact, empty, fixed, holds, lengthBytes, limit, plain, w16, w32}
+use Rattle.layout.specs.Rows.{Shape, absent, array, blob, end, field, lacking, natural, number, optional}
+use Rattle.layout.specs.Tables.{all, count, goodCount, rowsOf, sum, times, valueOf}
+use Rattle.layout.specs.Write.{each, unless, write}
+use Rattle.tags_written.specs.Tags.{allRanged, tagsBytes}
+use Rattle.writers.specs.declared.Form.{Form}
+use Rattle.writers.specs.Put.{sizeOf}
+
+-- ---- the shapes of a version
+
+abbrev pub tagsShape : Bool → Shape
+tagsShape true = array plain 2 (field natural (field (blob plain) end)) end
+tagsShape false = lacking plain 2 (absent natural (absent (blob plain) end)) end
+
+abbrev pub itemShape : Bool → Shape
+itemShape f = field (number w16) (field (number w16) (field (number w16) (tagsShape f)))
+
+abbrev pub itemsSize : Bool → Size
+itemsSize f = cond f (compact empty) (fixed w32 empty)
+
+abbrev pub throttleShape : Bool → Shape → Shape
+throttleShape true r = field (optional (0 ∷ []) (number w32)) r
+throttleShape false r = absent (optional (0 ∷ []) (number w32)) r
+
+abbrev pub responseShape : Bool → Bool → Shape
+responseShape t f = field (number w16) (array (itemsSize f) 1 (itemShape f) (throttleShape t (tagsShape f)))
+
+-- ---- the bytes
+
+-- tags that the version may lack
+unfoldable pub tagsPart : Bool → List ℕ → List ℕ → List ℕ
+tagsPart true lent table = tagsBytes lent table
+tagsPart false lent table = []
+
+-- the cells of tags that an item takes, whose count is c
+unfoldable pub tagCells : Bool → ℕ → ℕ
+tagCells true c = count c * 3
+tagCells false c = 0
+
+unfoldable pub keyBytes : ℕ → ℕ → ℕ → List ℕ
+keyBytes key low high = bytes 2 key ++ (bytes 2 low ++ bytes 2 high)
+
+-- the first row of `items`, with the first rows of `tags`
+unfoldable pub itemBytes : Bool → List ℕ → List ℕ → List ℕ → List ℕ
+itemBytes f lent items tags = keyBytes (getD items 0 0) (getD items 1 0) (getD items 2 0) ++ tagsPart f lent (take (tagCells f (getD items 3 0)) tags)
+
+unfoldable pub itemsBytes : Bool → List ℕ → List ℕ → List ℕ → List ℕ
+itemsBytes f lent items tags = each (write (itemShape f)) (times (length items / 4) (valueOf lent (itemShape f) 1) ([] ∷ items ∷ tags ∷ []) .0)
+
+-- how the number of items is carried
+abbrev pub formOf : Bool → Form
+formOf true = Form.Compact
+formOf false = Form.Int32
+
+unfoldable pub arrayBytes : Bool → List ℕ → List ℕ → List ℕ → List ℕ
+arrayBytes f lent items tags = lengthBytes (sizeOf (formOf f)) (length items / 4) ++ itemsBytes f lent items tags
+
+unfoldable pub throttleBytes : Bool → ℕ → List ℕ
+throttleBytes t n = cond t (bytes 4 n) []
+
+unfoldable pub endBytes : Bool → Bool → List ℕ → ℕ → List ℕ → List ℕ
+endBytes t f lent n table = throttleBytes t n ++ tagsPart f lent table
+
+-- where the body's own tags begin, behind those of the items
+unfoldable pub ownFrom : ℕ → List ℕ → ℕ
+ownFrom own tags = (length tags / 3 - count own) * 3
+
+-- what stands behind the error
+unfoldable pub restBytes : Bool → Bool → List ℕ → ℕ → ℕ → List ℕ → List ℕ → List ℕ
+restBytes t f lent n own items tags = arrayBytes f lent items tags ++ endBytes t f lent n (drop (ownFrom own tags) tags)
+
+unfoldable pub responseBytes : Bool → Bool → List ℕ → ℕ → ℕ → ℕ → List ℕ → List ℕ → List ℕ
+responseBytes t f lent error n own items tags = bytes 2 error ++ restBytes t f lent n own items tags
+
+-- an unset throttle time is written as 0
+abbrev pub throttleOf : Throttle → ℕ
+throttleOf Throttle.Absent = 0
+throttleOf (Throttle.Present n) = n
+
+-- ---- 13
+
+-- the tags that an item's row tells
+unfoldable pub told : List ℕ → ℕ
+told r = count (getD r 3 0)
+
+unfoldable pub toldGood : List ℕ → Bool
+toldGood r = goodCount true (getD r 3 0)
+
+-- the rows tell n tags in all
+unfoldable pub tells : ℕ → List (List ℕ) → Bool
+tells n rs = all toldGood rs && eqb (sum told rs) n
+
+-- c is the number of items, own that of the body's own tags
+unfoldable pub responseGood : ℕ → ℕ → ℕ → List ℕ → List ℕ → Bool
+responseGood size c own items tags =
+    (goodCount false c && goodCount true own)
+    && ((all toldGood (rowsOf 4 items) && allRanged size tags) && (eqb (count c) (length items / 4) && eqb (count own + sum told (rowsOf 4 items)) (length tags / 3)))
+
+-- ---- 11
+
+unfoldable pub rowHolds : List ℕ → Bool
+rowHolds r = holds w16 (getD r 0 0) && (holds w16 (getD r 1 0) && holds w16 (getD r 2 0))
+
+unfoldable pub throttleHolds : Bool → ℕ → Bool
+throttleHolds t n = cond t (holds w32 n) true
+
+unfoldable pub responseHolds : Bool → Bool → ℕ → ℕ → List ℕ → Bool
+responseHolds t f error n items = holds w16 error && ((ltb (length items / 4) (limit (itemsSize f)) && all rowHolds (rowsOf 4 items)) && throttleHolds t n)
+
+-- 13 before 11; 0 is neither
+unfoldable pub responseFault : Bool → Bool → ℕ → ℕ → ℕ → ℕ → ℕ → List ℕ → List ℕ → ℕ
+responseFault t f size error c n own items tags = cond (responseGood size c own items tags) (unless (responseHolds t f error n items) 11) 13

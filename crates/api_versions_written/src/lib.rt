@@ -1,0 +1,3 @@
+// ApiVersions written: each call judges the version, the tables and the values first, then measures the body, and writes it last.
+
+pub mod response;

@@ -1,0 +1,400 @@
+// The body of an ApiVersions response, versions 0 to 3. Items are rows of four cells, tags rows of three; the items' tags come first.
+// A throttle time stands from version 1 on, tags and compact forms from version 3 on.
+ghost use mathlib.Core.Path.{_≡_};
+ghost use mathlib.Core.List.{[], _++_, _∷_};
+ghost use lib.Dec.{ltb};
+ghost use lib.ListN.{getD, length};
+ghost use Prim.Native.Nat.{_+_, _*_, _/_, _<_, _^_, _≤_};
+ghost use Rattle.layout.specs.Answers.{writeAlone, writeAnswer};
+ghost use Rattle.layout.specs.Messages.ApiVersions as Api;
+ghost use Rattle.layout.specs.Primitives.{bytes, limit};
+ghost use Rattle.layout.specs.Tables.{all, count, rowsOf, sum};
+ghost use Rattle.rows.specs.Step.{Capped};
+ghost use Rattle.writers.specs.Put.{replied};
+ghost use Rattle.api_versions.specs.Answers.{ofResponse};
+ghost use Rattle.api_versions_written.specs.Responses.{arrayBytes, endBytes, formOf, itemBytes, itemsBytes, itemsSize, keyBytes, responseBytes, responseFault, responseGood, responseHolds, restBytes, rowHolds, tagCells, tagsPart, tells, throttleBytes, throttleHolds, throttleOf, told};
+use api_versions::ResponseBody;
+use api_versions::Throttle;
+use primitives::BAD_TABLES;
+use primitives::MOST;
+use primitives::NO_VERSION;
+use primitives::TOO_LONG;
+use primitives::TOO_WIDE;
+use primitives::at;
+use primitives::no_room;
+use primitives::version_of;
+use tags_written::all_ranged;
+use tags_written::rows_told;
+use tags_written::tag_buffer;
+use writers::Form;
+use writers::Written;
+use writers::put;
+use writers::write::fits;
+
+// ---- 13
+
+// Do the items' rows tell n tags in all?
+fn do_tell(items: &[u64], n: u64) -> bool
+    requires { ⌜ n < 2 ^ 63 ⌝ }
+    ensures { λ r. ⌜ r ≡ tells n (rowsOf 4 (now (items .entry))) ⌝ }
+{
+    let rows = items.len() / 4;
+    let mut left = n;
+    let mut i: usize = 0;
+    while i < rows {
+        let k = rows_told(items[i * 4 + 3]);
+        if left < k {
+            return false;
+        }
+        left = left - k;
+        i = i + 1;
+    }
+    left == 0
+}
+
+fn is_good(size: usize, count: u64, own: u64, items: &[u64], tags: &[u64]) -> bool
+    ensures { λ r. ⌜ r ≡ responseGood size count own (now (items .entry)) (now (tags .entry)) ⌝ }
+{
+    if count != (items.len() / 4) as u64 {
+        return false;
+    }
+    let rows = (tags.len() / 3) as u64;
+    let k = rows_told(own);
+    if rows < k {
+        return false;
+    }
+    if !do_tell(items, rows - k) {
+        return false;
+    }
+    all_ranged(size, tags)
+}
+
+// ---- 11
+
+fn row_fits(key: u64, low: u64, high: u64) -> bool
+    ensures { λ r. ⌜ r ≡ rowHolds (key ∷ low ∷ high ∷ []) ⌝ }
+{
+    if !fits(key, 32768) {
+        return false;
+    }
+    if !fits(low, 32768) {
+        return false;
+    }
+    fits(high, 32768)
+}
+
+fn all_fit(items: &[u64]) -> bool
+    ensures { λ r. ⌜ r ≡ all rowHolds (rowsOf 4 (now (items .entry))) ⌝ }
+{
+    let n = items.len() / 4;
+    let mut i: usize = 0;
+    while i < n {
+        if !row_fits(items[i * 4], items[i * 4 + 1], items[i * 4 + 2]) {
+            return false;
+        }
+        i = i + 1;
+    }
+    true
+}
+
+// Is the number of items one that the version can carry?
+fn is_countable(flexible: bool, n: usize) -> bool
+    ensures { λ r. ⌜ r ≡ ltb n (limit (itemsSize flexible)) ⌝ }
+{
+    if flexible {
+        return n < 18446744073709551615;
+    }
+    n < 2147483648
+}
+
+fn throttle_fits(throttle: bool, n: u64) -> bool
+    ensures { λ r. ⌜ r ≡ throttleHolds throttle n ⌝ }
+{
+    if throttle {
+        return fits(n, 2147483648);
+    }
+    true
+}
+
+fn is_carried(throttle: bool, flexible: bool, error: u64, n: u64, items: &[u64]) -> bool
+    ensures { λ r. ⌜ r ≡ responseHolds throttle flexible error n (now (items .entry)) ⌝ }
+{
+    if !fits(error, 32768) {
+        return false;
+    }
+    if !is_countable(flexible, items.len() / 4) {
+        return false;
+    }
+    if !throttle_fits(throttle, n) {
+        return false;
+    }
+    all_fit(items)
+}
+
+// 13, 11, or 0 for neither.
+fn refusal(
+    throttle: bool,
+    flexible: bool,
+    size: usize,
+    error: u64,
+    count: u64,
+    n: u64,
+    own: u64,
+    items: &[u64],
+    tags: &[u64],
+) -> u8
+    ensures { λ r. ⌜ r ≡ responseFault throttle flexible size error count n own (now (items .entry)) (now (tags .entry)) ⌝ }
+{
+    if !is_good(size, count, own, items, tags) {
+        return BAD_TABLES;
+    }
+    if !is_carried(throttle, flexible, error, n, items) {
+        return TOO_WIDE;
+    }
+    0
+}
+
+// ---- the walk
+
+fn versions(out: &mut [u8], low: u64, high: u64) -> usize
+    ensures { λ r. ⌜ Capped (bytes 2 low ++ bytes 2 high) (now (out .entry)) r (now (out .exit)) ⌝ }
+{
+    let a = put::lowest(out, low, 2);
+    let p = put::behind(a, out.len());
+    let b = put::lowest(&mut out[p..], high, 2);
+    put::add(a, b)
+}
+
+fn key(out: &mut [u8], key: u64, low: u64, high: u64) -> usize
+    ensures { λ r. ⌜ Capped (keyBytes key low high) (now (out .entry)) r (now (out .exit)) ⌝ }
+{
+    let a = put::lowest(out, key, 2);
+    let p = put::behind(a, out.len());
+    let b = versions(&mut out[p..], low, high);
+    put::add(a, b)
+}
+
+// Tags, where the version has them.
+fn tags_part(out: &mut [u8], flexible: bool, lent: &[u8], table: &[u64]) -> usize
+    ensures { λ r. ⌜ Capped (tagsPart flexible (now (lent .entry)) (now (table .entry))) (now (out .entry)) r (now (out .exit)) ⌝ }
+{
+    if flexible {
+        return tag_buffer(out, lent, table);
+    }
+    0
+}
+
+// The cells of tags that an item takes.
+fn tag_cells(flexible: bool, c: u64) -> usize
+    requires { ⌜ count c < 2 ^ 62 ⌝ }
+    ensures { λ r. ⌜ r ≡ tagCells flexible c ⌝ }
+{
+    if flexible {
+        return rows_told(c) as usize * 3;
+    }
+    0
+}
+
+// The first row of `items`, with the first rows of `tags`.
+fn item(out: &mut [u8], flexible: bool, lent: &[u8], items: &[u64], tags: &[u64]) -> usize
+    requires { ⌜ (4 ≤ length (now items)) × (count (getD (now items) 3 0) * 3 ≤ length (now tags)) ⌝ }
+    ensures { λ r. ⌜ Capped (itemBytes flexible (now (lent .entry)) (now (items .entry)) (now (tags .entry))) (now (out .entry)) r (now (out .exit)) ⌝ }
+{
+    let k = tag_cells(flexible, items[3]);
+    let a = key(out, items[0], items[1], items[2]);
+    let p = put::behind(a, out.len());
+    let b = tags_part(&mut out[p..], flexible, lent, &tags[..k]);
+    put::add(a, b)
+}
+
+// Item behind item.
+fn all_items(out: &mut [u8], flexible: bool, lent: &[u8], items: &[u64], tags: &[u64]) -> usize
+    requires { ⌜ sum told (rowsOf 4 (now items)) * 3 ≤ length (now tags) ⌝ }
+    ensures { λ r. ⌜ Capped (itemsBytes flexible (now (lent .entry)) (now (items .entry)) (now (tags .entry))) (now (out .entry)) r (now (out .exit)) ⌝ }
+{
+    let mut done: usize = 0;
+    let mut left = items;
+    let mut free = tags;
+    while 4 <= left.len() {
+        let p = put::behind(done, out.len());
+        let more = item(&mut out[p..], flexible, lent, left, free);
+        done = put::add(done, more);
+        let k = tag_cells(flexible, left[3]);
+        free = &free[k..];
+        left = &left[4..];
+    }
+    done
+}
+
+fn form_of(flexible: bool) -> Form
+    ensures { λ r. ⌜ r ≡ formOf flexible ⌝ }
+{
+    if flexible {
+        return Form::Compact;
+    }
+    Form::Int32
+}
+
+// The items behind their number.
+fn array(out: &mut [u8], flexible: bool, lent: &[u8], items: &[u64], tags: &[u64]) -> usize
+    requires { ⌜ sum told (rowsOf 4 (now items)) * 3 ≤ length (now tags) ⌝ }
+    ensures { λ r. ⌜ Capped (arrayBytes flexible (now (lent .entry)) (now (items .entry)) (now (tags .entry))) (now (out .entry)) r (now (out .exit)) ⌝ }
+{
+    let a = put::length(out, form_of(flexible), (items.len() / 4) as u64);
+    let p = put::behind(a, out.len());
+    let b = all_items(&mut out[p..], flexible, lent, items, tags);
+    put::add(a, b)
+}
+
+fn throttle_time(out: &mut [u8], throttle: bool, n: u64) -> usize
+    ensures { λ r. ⌜ Capped (throttleBytes throttle n) (now (out .entry)) r (now (out .exit)) ⌝ }
+{
+    if throttle {
+        return put::lowest(out, n, 4);
+    }
+    0
+}
+
+// What stands behind the items.
+fn end(out: &mut [u8], throttle: bool, flexible: bool, lent: &[u8], n: u64, table: &[u64]) -> usize
+    ensures { λ r. ⌜ Capped (endBytes throttle flexible (now (lent .entry)) n (now (table .entry))) (now (out .entry)) r (now (out .exit)) ⌝ }
+{
+    let a = throttle_time(out, throttle, n);
+    let p = put::behind(a, out.len());
+    let b = tags_part(&mut out[p..], flexible, lent, table);
+    put::add(a, b)
+}
+
+// What stands behind the error.
+fn rest(
+    out: &mut [u8],
+    throttle: bool,
+    flexible: bool,
+    lent: &[u8],
+    n: u64,
+    own: u64,
+    items: &[u64],
+    tags: &[u64],
+) -> usize
+    requires { ⌜ count own + sum told (rowsOf 4 (now items)) ≡ length (now tags) / 3 ⌝ }
+    ensures { λ r. ⌜ Capped (restBytes throttle flexible (now (lent .entry)) n own (now (items .entry)) (now (tags .entry))) (now (out .entry)) r (now (out .exit)) ⌝ }
+{
+    let from = (tags.len() / 3 - rows_told(own) as usize) * 3;
+    let a = array(out, flexible, lent, items, tags);
+    let p = put::behind(a, out.len());
+    let b = end(&mut out[p..], throttle, flexible, lent, n, &tags[from..]);
+    put::add(a, b)
+}
+
+fn body(
+    out: &mut [u8],
+    throttle: bool,
+    flexible: bool,
+    lent: &[u8],
+    error: u64,
+    n: u64,
+    own: u64,
+    items: &[u64],
+    tags: &[u64],
+) -> usize
+    requires { ⌜ count own + sum told (rowsOf 4 (now items)) ≡ length (now tags) / 3 ⌝ }
+    ensures { λ r. ⌜ Capped (responseBytes throttle flexible (now (lent .entry)) error n own (now (items .entry)) (now (tags .entry))) (now (out .entry)) r (now (out .exit)) ⌝ }
+{
+    let a = put::lowest(out, error, 2);
+    let p = put::behind(a, out.len());
+    let b = rest(&mut out[p..], throttle, flexible, lent, n, own, items, tags);
+    put::add(a, b)
+}
+
+// ---- the call
+
+// At a version that is known: judged, measured and written.
+fn written(
+    out: &mut [u8],
+    throttle: bool,
+    flexible: bool,
+    lent: &[u8],
+    error: u64,
+    count: u64,
+    n: u64,
+    own: u64,
+    items: &[u64],
+    tags: &[u64],
+) -> Written
+    ensures { λ r. ⌜ replied r (now (out .exit)) ≡ writeAlone (responseFault throttle flexible (length (now (lent .entry))) error count n own (now (items .entry)) (now (tags .entry))) (responseBytes throttle flexible (now (lent .entry)) error n own (now (items .entry)) (now (tags .entry))) (now (out .entry)) ⌝ }
+{
+    let e = refusal(
+        throttle,
+        flexible,
+        lent.len(),
+        error,
+        count,
+        n,
+        own,
+        items,
+        tags,
+    );
+    if e != 0 {
+        return Written::Refused(at(e, 0));
+    }
+    let all = body(
+        &mut out[..0],
+        throttle,
+        flexible,
+        lent,
+        error,
+        n,
+        own,
+        items,
+        tags,
+    );
+    if MOST < all {
+        return Written::Refused(at(TOO_LONG, 0));
+    }
+    if out.len() < all {
+        return Written::Refused(no_room(all));
+    }
+    body(out, throttle, flexible, lent, error, n, own, items, tags);
+    Written::Wrote(all)
+}
+
+// An unset throttle time is written as 0.
+fn time(throttle: Throttle) -> u64
+    ensures { λ r. ⌜ r ≡ throttleOf throttle ⌝ }
+{
+    match throttle {
+        Throttle::Absent => 0,
+        Throttle::Present(n) => n,
+    }
+}
+
+// `items` are rows of key, lowest and highest version and number of tags; `tags` rows of tag, and start and length of its data in `lent`.
+pub fn write(
+    out: &mut [u8],
+    version: i16,
+    lent: &[u8],
+    body: ResponseBody,
+    items: &[u64],
+    tags: &[u64],
+) -> Written
+    ensures { λ r. ⌜ replied r (now (out .exit)) ≡ writeAnswer Api.response version (now (lent .entry)) (ofResponse body ∷ now (items .entry) ∷ now (tags .entry) ∷ []) (now (out .entry)) ⌝ }
+{
+    let v = version_of(version);
+    if 3 < v {
+        return Written::Refused(at(NO_VERSION, 0));
+    }
+    let throttle = body.throttle;
+    let n = time(throttle);
+    written(
+        out,
+        1 <= v,
+        3 <= v,
+        lent,
+        body.error,
+        body.items,
+        n,
+        body.tags,
+        items,
+        tags,
+    )
+}
