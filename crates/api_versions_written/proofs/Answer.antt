@@ -1,5 +1,5 @@
 -- What a call answers at a version that is known: a refusal by its number, or what is answered of the bytes; and what tables that are not refused with 13 hold.
-use mathlib.Core.Bool.{Bool, _&&_, cond, false, true}
+use mathlib.Core.Bool.{Bool, _&&_, false, true}
 use mathlib.Core.List.{List}
 use mathlib.Core.Logic.{_≢_}
 use mathlib.Core.Path.{_∙_, _≡_, ap, refl, sym}

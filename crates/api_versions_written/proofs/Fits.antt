@@ -1,16 +1,14 @@
 -- 11 of a response: the numbers of a row, of all rows, and of the whole.
-use mathlib.Core.Bool.{Bool, _&&_, and-false, and-true, cond, false, true}
+use mathlib.Core.Bool.{Bool, _&&_, and-false, and-true, false, true}
 use mathlib.Core.List.{List, [], _∷_}
-use mathlib.Core.Path.{_∙_, _≡_, ap, refl, sym}
-use Prim.Native.Nat.{_*_, _+_, _/_, _<_, _^_, _≤_, ℕ}
+use mathlib.Core.Path.{_∙_, _≡_, ap, sym}
+use Prim.Native.Nat.{_*_, _+_, _/_, _<_, ℕ}
 use native.Mathlib.Nat.{add-zero}
-use native.Mathlib.Omega.{arith}
 use lib.Dec.{lit<, ltb}
 use lib.ListN.{getD, length}
-use Rattle.layout.specs.Primitives.{holds, limit, w16, w32}
+use Rattle.layout.specs.Primitives.{holds, limit, w16}
 use Rattle.layout.specs.Tables.{all, rowsOf}
 use Rattle.layout.specs.Write.{unless}
-use Rattle.layout.proofs.Tests.{lt-false, lt-true}
 use Rattle.rows.proofs.Chunks.{row-cell}
 use Rattle.writers.specs.Put.{within}
 use Rattle.api_versions_written.specs.Responses.{itemsSize, responseFault, responseGood, responseHolds, rowHolds, throttleHolds}

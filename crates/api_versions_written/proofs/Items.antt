@@ -1,12 +1,12 @@
 -- The items of a response: what the definition takes from the tables for each, its bytes, and the loop over them.
 use mathlib.Core.Bool.{Bool, false, true}
 use mathlib.Core.List.{List, [], _++_, _∷_, append-assoc, append-nil, map}
-use mathlib.Core.Path.{_∙_, _≡_, ap, ap₂, refl, subst, sym}
-use Prim.Native.Nat.{_*_, _+_, _-_, _/_, _<_, _≤_, min, suc, zero, ℕ}
+use mathlib.Core.Path.{_∙_, _≡_, ap, ap₂, refl, sym}
+use Prim.Native.Nat.{_*_, _+_, _-_, _/_, _<_, _≤_, min, ℕ}
 use native.Mathlib.Omega.{arith}
 use lib.Dec.{lit<}
-use lib.ListN.{drop, drop-of-length-le, getD, length, length-drop, take}
-use lib.Seq.{drop-drop, drop-nil, getD-take, take-all}
+use lib.ListN.{drop, getD, length, length-drop, take}
+use lib.Seq.{getD-take, take-all}
 use borrow.Rule.Slice.PartMut.{midOf, putMid}
 use Rattle.layout.specs.Primitives.{bytes, plain, sizedBytes}
 use Rattle.layout.specs.Rows.{Value}
@@ -16,7 +16,6 @@ use Rattle.rows.specs.Step.{Capped, cap}
 use Rattle.rows.proofs.Capped.{capped-all, capped-as, capped-next, capped-none}
 use Rattle.rows.proofs.Chunks.{rows-first, rows-part}
 use Rattle.rows.proofs.Times.{behind, behind-next, behind-none, times-at, times-many}
-use Rattle.tags_written.specs.Tags.{tagsBytes}
 use Rattle.tags_written.proofs.Meaning.{meaning, tag, tags-bytes, tags-value}
 use Rattle.api_versions_written.specs.Responses.{itemBytes, itemShape, itemsBytes, keyBytes, tagCells, tagsPart, told}
 use Rattle.api_versions_written.proofs.Walk.{cells-most}

@@ -12,5 +12,11 @@ pub mod Answer
 pub mod Meant
 -- the answer to a whole response
 pub mod Whole
+-- a request's texts and tags
+pub mod Texts
+-- what the definition comes to for requests
+pub mod RequestMeant
+-- a promise determines reply and output
+pub mod Unique
 -- what was written comes back whole at its version, and is refused at the others
 pub mod ComesBack

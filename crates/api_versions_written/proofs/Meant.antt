@@ -1,22 +1,21 @@
 -- What the definition comes to for responses: the value of row and tables, its bytes, and its first fault.
-use mathlib.Core.Bool.{Bool, _&&_, and-true, cond, false, true}
-use mathlib.Core.List.{List, [], _++_, _∷_, append-nil, map}
+use mathlib.Core.Bool.{Bool, _&&_, cond, false, true}
+use mathlib.Core.List.{List, [], _++_, _∷_, map}
 use mathlib.Core.Path.{_∙_, _≡_, ap, ap₂, refl, sym}
-use Prim.Native.Nat.{_*_, _+_, _-_, _/_, _<_, _^_, _≤_, suc, zero, ℕ}
+use Prim.Native.Nat.{_*_, _+_, _/_, _<_, _^_, _≤_, suc, zero, ℕ}
 use native.Mathlib.Omega.{arith}
 use lib.Dec.{eqb, lit<, ltb}
-use lib.ListN.{drop, getD, length, length-drop, take}
+use lib.ListN.{drop, getD, length, take}
 use lib.Seq.{drop-drop, getD-drop, getD-take}
-use Rattle.layout.specs.Primitives.{Size, bytes, compact, empty, fixed, holds, lengthBytes, limit, minus, plain, sizedBytes, w16, w32}
+use Rattle.layout.specs.Primitives.{bytes, holds, lengthBytes, limit, minus, sizedBytes, w16, w32}
 use Rattle.layout.specs.Rows.{Shape, Value, array, field, number}
-use Rattle.layout.specs.Tables.{Tables, all, basicOf, chosen, chunks, count, itemsOf, pop, rowsOf, sum, times, valueOf, width}
+use Rattle.layout.specs.Tables.{Tables, all, basicOf, chosen, chunks, count, itemsOf, pop, sum, times, valueOf, width}
 use Rattle.layout.specs.Write.{basicFault, each, fault, firstOf, or, sizedFault, unless, write, writeBasic}
 use Rattle.rows.proofs.Faults.{or-none, or-unless}
 use Rattle.rows.proofs.Times.{times-many}
-use Rattle.tags_written.specs.Tags.{tagsBytes}
-use Rattle.tags_written.proofs.Meaning.{meaning, tag, tags-bytes, tags-clean}
+use Rattle.tags_written.proofs.Meaning.{meaning, tags-clean, tags-end}
 use Rattle.writers.specs.Put.{sizeOf}
-use Rattle.api_versions_written.specs.Responses.{arrayBytes, endBytes, formOf, itemShape, itemsBytes, itemsSize, ownFrom, responseBytes, responseHolds, responseShape, restBytes, rowHolds, tagCells, tagsPart, tagsShape, throttleBytes, throttleHolds, throttleShape, told}
+use Rattle.api_versions_written.specs.Responses.{endBytes, formOf, itemShape, itemsSize, rowHolds, tagCells, tagsPart, tagsShape, throttleBytes, throttleHolds, throttleShape, told}
 use Rattle.api_versions_written.proofs.Items.{item-value, itemMeant, taken}
 
 count-most : (c : ℕ) → count c ≤ c
@@ -112,18 +111,11 @@ module _ (lent : List ℕ) (l : length lent < 2 ^ 64) where
   end-value false true k m own items table = λ i. (taken lent (count own) [] items table i .0, tt)
   end-value false false k m own items table = refl
 
-  own-bytes : (own : ℕ) (table : List ℕ) → count own ≡ length table / 3 → sizedBytes false plain (λ xs. each (write tag) xs) (map (meaning lent) (chunks (count own) 3 table)) ++ [] ≡ tagsBytes lent table
-  unfolding rowsOf
-  own-bytes own table h =
-      append-nil _
-      ∙ ap (λ (n : ℕ). sizedBytes false plain (λ xs. each (write tag) xs) (map (meaning lent) (chunks n 3 table))) h
-      ∙ tags-bytes lent table
-
   pub end-bytes : (t f : Bool) (n own : ℕ) (table : List ℕ) → (f ≡ true → count own ≡ length table / 3) → write (throttleShape t (tagsShape f)) (endMeant t f n own table) ≡ endBytes t f lent n table
   unfolding write writeBasic endBytes throttleBytes tagsPart
-  end-bytes true true n own table h = ap (λ (x : List ℕ). bytes 4 n ++ x) (own-bytes own table (h refl))
+  end-bytes true true n own table h = ap (λ (x : List ℕ). bytes 4 n ++ x) (tags-end lent (count own) table (h refl))
   end-bytes true false n own table h = refl
-  end-bytes false true n own table h = own-bytes own table (h refl)
+  end-bytes false true n own table h = tags-end lent (count own) table (h refl)
   end-bytes false false n own table h = refl
 
   pub end-fault : (t f : Bool) (n own : ℕ) (table : List ℕ) → count own < 2 ^ 64 → Cells table → fault (throttleShape t (tagsShape f)) (endMeant t f n own table) ≡ unless (throttleHolds t n) 11

@@ -1,8 +1,8 @@
 -- The walk over a response: what each part leaves in the output, one behind the other.
-use mathlib.Core.Bool.{Bool, cond, false, true}
-use mathlib.Core.List.{List, [], _++_, _∷_}
-use mathlib.Core.Path.{_∙_, _≡_, ap, refl, subst, sym}
-use Prim.Native.Nat.{_*_, _+_, _-_, _/_, _<_, _≤_, min, ℕ}
+use mathlib.Core.Bool.{Bool, false, true}
+use mathlib.Core.List.{List, _++_}
+use mathlib.Core.Path.{_∙_, _≡_, ap, sym}
+use Prim.Native.Nat.{_*_, _+_, _-_, _/_, _≤_, min, ℕ}
 use native.Mathlib.Omega.{arith}
 use lib.ListN.{drop, getD, length, length-drop, take}
 use lib.Seq.{take-all}

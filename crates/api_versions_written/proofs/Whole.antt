@@ -1,4 +1,4 @@
--- The answer to a whole response at a version that is known: 13, 11, or what is answered of its bytes; and to a version that is not.
+-- The answer to a whole response at a version that is known: 13, 11, or what is answered of its bytes.
 use mathlib.Core.Bool.{Bool, _&&_, and-true, cond, false, true}
 use mathlib.Core.List.{List, [], _++_, _∷_}
 use mathlib.Core.Path.{_∙_, _≡_, ap, ap₂, refl, sym}
@@ -6,30 +6,31 @@ use Prim.Native.Nat.{_*_, _+_, _-_, _/_, _<_, _^_, _≤_, suc, zero, ℕ}
 use native.Mathlib.Nat.{add-zero}
 use native.Mathlib.Omega.{arith}
 use lib.Dec.{eqb, leb, lit≤, ltb}
-use lib.IntN.{ℤ, negsuc, pos}
+use lib.IntN.{ℤ, pos}
 use lib.ListN.{drop, getD, length, length-drop}
 use lib.Seq.{getD-drop}
-use Rattle.layout.specs.Answers.{Answer, body, made, meant, offered, refused, shape, stored, writeAlone, writeAnswer}
+use Rattle.layout.specs.Answers.{Answer, body, made, meant, offered, shape, stored, writeAlone, writeAnswer}
 use Rattle.layout.specs.Messages.ApiVersions.{keyRows, response, responseRows}
 use Rattle.layout.specs.Primitives.{bytes, holds, lengthBytes, limit, w16}
-use Rattle.layout.specs.Reading.{Refusal, bad, because}
+use Rattle.layout.specs.Reading.{bad, because}
 use Rattle.layout.specs.Rows.{at, stands, standing, tagRows}
-use Rattle.layout.specs.Tables.{Tables, addsUp, all, arrays, asked, chosen, chunks, count, from, good, goodCells, goodCount, goodRow, goodSpan, inside, kindIn, kindOf, rowWidth, rowsAt, rowsOf, sum, times, valueOf, width}
+use Rattle.layout.specs.Tables.{Tables, addsUp, all, arrays, asked, chosen, chunks, count, from, good, goodCells, goodCount, goodRow, goodSpan, kindIn, kindOf, rowWidth, rowsAt, rowsOf, sum, times, valueOf, width}
 use Rattle.layout.specs.Write.{each, fault, or, unless, write}
 use Rattle.layout.proofs.Sums.{sum-eq, sum-zero}
-use Rattle.layout.proofs.Tests.{le-false, le-true, of-le}
+use Rattle.layout.proofs.Tests.{le-true}
 use Rattle.rows.proofs.Chunks.{rows-many}
 use Rattle.rows.proofs.Faults.{or-unless}
 use Rattle.rows.proofs.Judged.{all-eq}
 use Rattle.tags_written.specs.Tags.{allRanged, ranged}
+use Rattle.tags_written.proofs.Meaning.{tag-good}
 use Rattle.writers.specs.Put.{sizeOf}
-use Rattle.primitives.specs.Answers.{versionOf}
-use Rattle.primitives.proofs.Versions.{known}
 use Rattle.api_versions.specs.Answers.{ofThrottle}
 use Rattle.api_versions.specs.declared.Throttle.{Throttle}
 use Rattle.api_versions_written.specs.Responses.{arrayBytes, endBytes, formOf, itemShape, itemsBytes, itemsSize, ownFrom, responseBytes, responseFault, responseGood, responseHolds, responseShape, restBytes, rowHolds, tagsPart, tagsShape, throttleHolds, throttleOf, throttleShape, told, toldGood}
+use Rattle.primitives.specs.Answers.{versionOf}
+use Rattle.primitives.proofs.Versions.{known}
 use Rattle.api_versions_written.proofs.Answer.{good-items, good-tags}
-use Rattle.api_versions_written.proofs.Meant.{Cells, behindItems, cells-drop, cells-told, cellsOf, end-bytes, end-fault, end-value, endMeant, front-bytes, front-fault}
+use Rattle.api_versions_written.proofs.Meant.{Cells, cells-drop, cells-told, cellsOf, end-bytes, end-fault, end-value, endMeant, front-bytes, front-fault}
 
 -- ---- the shape of a version
 
@@ -52,10 +53,6 @@ module _ (size error c k m own : ℕ) (items tags : List ℕ) where
   unfolding told
   item-told r = add-zero _ ∙ ap count (getD-drop 1 (drop 1 (drop 1 r)) 0 0 ∙ getD-drop 1 (drop 1 r) 1 0 ∙ getD-drop 1 r 2 0)
 
-  tag-good : (r : List ℕ) → (goodSpan size false (drop 1 r) && true) ≡ ranged size r
-  unfolding goodSpan ranged
-  tag-good r = and-true _ ∙ ap₂ (inside size) (getD-drop 1 r 0 0) (getD-drop 1 r 1 0)
-
   always : (b : Bool) → cond b true true ≡ true
   always true = refl
   always false = refl
@@ -74,7 +71,7 @@ module _ (size error c k m own : ℕ) (items tags : List ℕ) where
   is-good =
       (λ i.
       (goodCount false c && (always (eqb k 0) i && (goodCount true own && true)))
-      && ((all-eq (λ (r : List ℕ). goodCount true (getD (drop 1 (drop 1 (drop 1 r))) 0 0) && true) toldGood item-good (rowsOf 4 items) i && (all-eq (λ (r : List ℕ). goodSpan size false (drop 1 r) && true) (ranged size) tag-good (rowsOf 3 tags) i && true))
+      && ((all-eq (λ (r : List ℕ). goodCount true (getD (drop 1 (drop 1 (drop 1 r))) 0 0) && true) toldGood item-good (rowsOf 4 items) i && (all-eq (λ (r : List ℕ). goodSpan size false (drop 1 r) && true) (ranged size) (tag-good size) (rowsOf 3 tags) i && true))
       && (eqb (items-add i) (rows-many 4 items i) && (eqb (tags-add i) (rows-many 3 tags i) && true))))
       ∙ fewer (goodCount false c) (goodCount true own) (all toldGood (rowsOf 4 items)) (all (ranged size) (rowsOf 3 tags)) (eqb (count c) (length items / 4)) (eqb (count own + sum told (rowsOf 4 items)) (length tags / 3))
 
@@ -143,17 +140,6 @@ module _ (lent : List ℕ) (l : length lent < 2 ^ 64) (error c k m own : ℕ) (i
           ≡ offered (cond b (unless (responseHolds (leb 1 v) (leb 3 v) error throttle items) 11) 13) (responseBytes (leb 1 v) (leb 3 v) lent error throttle own items tags)
       go false e = refl
       go true e = ap₂ offered (is-fault (leb 1 v) (leb 3 v) e i j o) (is-body (leb 1 v) (leb 3 v) e)
-
--- ---- a version
-
-unknown : (z : ℤ) (v : ℕ) → v ≡ versionOf z → 3 < v → (lent : List ℕ) (st : Tables) → made response z lent st ≡ bad (because 1 0)
-unfolding made
-unknown (pos w) v e h lent st = rw (le-false w 3 (omega arith))
-unknown (negsuc w) v e h lent st = refl
-
-pub version-refused : (z : ℤ) (v : ℕ) → v ≡ versionOf z → 3 < v → (lent : List ℕ) (st : Tables) (out : List ℕ) (r : Refusal) → r ≡ because 1 0 → _≡_ {A = Answer × List ℕ} (refused r, out) (writeAnswer response z lent st out)
-unfolding writeAnswer
-version-refused z v e h lent st out r i = (λ t. (refused (i t), out)) ∙ sym (ap (stored out) (unknown z v e h lent st))
 
 -- the call's promise from that of a known version
 module _ (lent : List ℕ) (error c own : ℕ) (items tags out : List ℕ) (l : length lent < 2 ^ 64) (h : Cells items) (i : Cells tags) (o : length tags < 2 ^ 64) (v : ℕ) (k : v ≤ 3) where

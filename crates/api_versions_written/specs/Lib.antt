@@ -1,2 +1,4 @@
 -- responses row by row
 pub mod Responses
+-- requests field by field
+pub mod Requests

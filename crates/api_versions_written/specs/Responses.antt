@@ -3,8 +3,7 @@
 use mathlib.Core.Bool.{Bool, _&&_, cond, false, true}
 use mathlib.Core.List.{List, [], _++_, _∷_}
 use Prim.Native.Nat.{_*_, _+_, _-_, _/_, ℕ}
-use lib.Dec.{eqb, leb, ltb}
-use lib.IntN.{ℤ, negsuc, pos}
+use lib.Dec.{eqb, ltb}
 use lib.ListN.{drop, getD, length, take}
 use Rattle.api_versions.specs.declared.Throttle.{Throttle}
 use Rattle.layout.specs.Primitives.{Size, bytes, compact, empty, fixed, holds, lengthBytes, limit, plain, w16, w32}

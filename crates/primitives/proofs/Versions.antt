@@ -13,9 +13,10 @@ use mir.Val.{Fits, SFits, ofZ, toZ}
 use borrow.Author.Tests.{le-ltb}
 use Rattle.layout.specs.Reading.{Refusal, bad, because}
 use Rattle.layout.specs.Tables.{Tables}
-use Rattle.layout.specs.Answers.{Answer, Message, prefixRead, readAnswer, refused, wholeRead}
+use Rattle.layout.specs.Answers.{Answer, Message, made, prefixRead, readAnswer, refused, wholeRead, writeAnswer}
 use Rattle.layout.proofs.Calls as Calls
 use Rattle.layout.proofs.Calls.{read-refused, version-above}
+use Rattle.layout.proofs.Tests.{le-false}
 use Rattle.primitives.specs.Answers.{versionOf}
 
 not-both : {b : Bool} → b ≡ true → b ≡ false → ⊥
@@ -53,6 +54,15 @@ module _ (m : Message) (z : ℤ) (v : ℕ) (e : v ≡ versionOf z) where
       go : (z : ℤ) → v ≡ versionOf z → (refused c, olds) ≡ readAnswer w m z olds s
       go (pos n) i = sym (read-refused m (pos n) s olds w c (version-above w m n s (omega arith) ∙ ap bad (sym d)))
       go (negsuc n) i = sym (read-refused m (negsuc n) s olds w c (Calls.version-below w m n s ∙ ap bad (sym d)))
+
+  -- the same of what is written
+  pub unwritten : m .last < v → (lent : List ℕ) (st : Tables) (out : List ℕ) (c : Refusal) → c ≡ because 1 0 → _≡_ {A = Answer × List ℕ} (refused c, out) (writeAnswer m z lent st out)
+  unfolding writeAnswer made
+  unwritten h lent st out c d = go z e
+    where
+      go : (z : ℤ) → v ≡ versionOf z → _≡_ {A = Answer × List ℕ} (refused c, out) (writeAnswer m z lent st out)
+      go (pos n) i = rw (le-false n (m .last) (omega arith)) (λ t. (refused (d t), out))
+      go (negsuc n) i = λ t. (refused (d t), out)
 
   pub known : v ≤ m .last → m .last < 65536 → pos v ≡ z
   known h k = go z e

@@ -1,5 +1,4 @@
 -- Rows of items taken from tables one behind the other, as a loop takes them: the tables behind so many of them, and the item that is next.
-use mathlib.Core.List.{List, [], _∷_}
 use mathlib.Core.Path.{_≡_, ap, refl}
 use Prim.Native.Nat.{_+_, _<_, suc, zero, ℕ}
 use native.Mathlib.Omega.{arith}

@@ -1,26 +1,24 @@
 -- What the definition comes to for tagged fields alone: 13 by the count and the ranges, no fault, and else the bytes row by row.
 use mathlib.Core.Bool.{Bool, _&&_, and-true, cond, false, true}
-use mathlib.Core.List.{List, [], _++_, _∷_, append-nil, map}
-use mathlib.Core.Path.{_∙_, _≡_, ap, ap₂, refl}
-use Prim.Native.Nat.{_+_, _/_, _<_, _^_, suc, zero, ℕ}
+use mathlib.Core.List.{List, [], _∷_, append-nil, map}
+use mathlib.Core.Path.{_∙_, _≡_, ap, refl}
+use Prim.Native.Nat.{_+_, _/_, _<_, _^_, ℕ}
 use native.Mathlib.Omega.{arith}
 use lib.Dec.{eqb, lit<}
 use lib.IntN.{pos}
-use lib.ListN.{drop, getD, length, length-drop, length-map, length-take, take}
-use lib.Seq.{getD-drop, getD-take}
+use lib.ListN.{getD, length}
 use Rattle.layout.specs.Answers.{body, limited, made, meant, offered, shape, stored, tagsAlone, writeAnswer}
-use Rattle.layout.specs.Primitives.{lengthBytes, plain, sizedBytes, unsignedBytes}
+use Rattle.layout.specs.Primitives.{plain}
 use Rattle.layout.specs.Reading.{because, bad, ok}
-use Rattle.layout.specs.Rows.{Shape, Value, array, at, blob, end, field, natural, stands, standing, tagRows}
-use Rattle.layout.specs.Tables.{Tables, all, asked, basicOf, addsUp, chunks, count, from, good, goodCells, goodRow, goodCount, goodSpan, inside, itemsOf, rowWidth, kindOf, kindIn, arrays, pop, rowsAt, rowsOf, slice, spanOf, sum, times, valueOf, width}
-use Rattle.layout.specs.Write.{basicFault, each, fault, firstOf, or, sizedFault, unless, write, writeBasic}
+use Rattle.layout.specs.Rows.{Shape, array, at, end, stands, standing, tagRows}
+use Rattle.layout.specs.Tables.{Tables, all, asked, addsUp, count, from, good, goodCells, goodRow, goodCount, itemsOf, rowWidth, kindOf, kindIn, arrays, pop, rowsAt, rowsOf, sum, valueOf, width}
+use Rattle.layout.specs.Write.{fault, or, write}
 use Rattle.layout.proofs.Sums.{sum-zero}
-use Rattle.layout.proofs.Tests.{lt-true, of-eq}
+use Rattle.layout.proofs.Tests.{of-eq}
 use Rattle.rows.proofs.Chunks.{rows-many}
 use Rattle.rows.proofs.Judged.{all-eq}
-use Rattle.tags_written.proofs.Meaning.{meaning, tag, tags-bytes, tags-clean, tags-value}
-use Rattle.tags_written.specs.Tags.{allRanged, ranged, rowBytes, rowsBytes, tagBytes, tagsBytes, tagsGood}
-use Rattle.writers.specs.Put.{behindLength}
+use Rattle.tags_written.proofs.Meaning.{meaning, tag, tag-good, tags-bytes, tags-clean, tags-value}
+use Rattle.tags_written.specs.Tags.{allRanged, ranged, tagsBytes, tagsGood}
 
 abbrev tags : Shape
 tags = array plain 1 tag end
@@ -32,8 +30,8 @@ is-tags = refl
 -- ---- 13
 
 row-good : (size : ℕ) (r : List ℕ) → goodRow size tag r ≡ ranged size r
-unfolding goodRow goodCells goodSpan ranged width
-row-good size r = and-true _ ∙ ap₂ (inside size) (getD-drop 1 r 0 0) (getD-drop 1 r 1 0)
+unfolding goodRow goodCells width
+row-good size r = tag-good size r
 
 asks-none : (r : List ℕ) → asked 1 tag r ≡ 0
 unfolding asked

@@ -1,5 +1,5 @@
 -- What rows of tags mean, in whatever table they stand: their values, the bytes of these, and that these have no fault.
-use mathlib.Core.Bool.{false}
+use mathlib.Core.Bool.{_&&_, and-true, false, true}
 use mathlib.Core.List.{List, [], _++_, _∷_, append-nil, map}
 use mathlib.Core.Path.{_∙_, _≡_, ap, ap₂, refl, sym}
 use Prim.Native.Nat.{_*_, _+_, _/_, _<_, _^_, suc, zero, ℕ}
@@ -9,16 +9,21 @@ use lib.ListN.{drop, getD, length, length-drop, length-map, length-set, length-t
 use lib.Seq.{drop-drop, getD-drop, getD-set-same, getD-take, set-getD, set-set}
 use Rattle.layout.specs.Primitives.{lengthBytes, plain, sizedBytes, unsignedBytes}
 use Rattle.layout.specs.Rows.{Shape, Value, blob, end, field, natural}
-use Rattle.layout.specs.Tables.{Tables, basicOf, chunks, pop, rowsOf, slice, spanOf, times, valueOf, width}
+use Rattle.layout.specs.Tables.{Tables, basicOf, chunks, goodSpan, inside, pop, rowsOf, slice, spanOf, times, valueOf, width}
 use Rattle.layout.specs.Write.{basicFault, each, fault, firstOf, or, sizedFault, unless, write, writeBasic}
 use Rattle.layout.proofs.Tests.{lt-true}
 use Rattle.rows.proofs.Chunks.{chunks-many, rows-many}
 use Rattle.writers.specs.Put.{behindLength}
-use Rattle.tags_written.specs.Tags.{rowBytes, rowsBytes, tagBytes, tagsBytes}
+use Rattle.tags_written.specs.Tags.{ranged, rowBytes, rowsBytes, tagBytes, tagsBytes}
 
 -- a row of tags, where the version has them
 abbrev pub tag : Shape
 tag = field natural (field (blob plain) end)
+
+-- a row is good where its data are inside; it is so at versions that lack tags too
+pub tag-good : (size : ℕ) (r : List ℕ) → (goodSpan size false (drop 1 r) && true) ≡ ranged size r
+unfolding goodSpan ranged
+tag-good size r = and-true _ ∙ ap₂ (inside size) (getD-drop 1 r 0 0) (getD-drop 1 r 1 0)
 
 module _ (lent : List ℕ) where
   -- the value of a row
@@ -72,6 +77,11 @@ module _ (lent : List ℕ) where
   pub tags-bytes : (table : List ℕ) → sizedBytes false plain (λ xs. each (write tag) xs) (map meaning (rowsOf 3 table)) ≡ tagsBytes lent table
   unfolding sizedBytes lengthBytes tagsBytes rowsBytes
   tags-bytes table = ap₂ (λ (n : ℕ) (s : List ℕ). unsignedBytes n ++ s) (length-map (rowsOf 3 table) meaning ∙ rows-many 3 table) (all-bytes (rowsOf 3 table))
+
+  -- n rows, where the table has no more, at the end of a shape
+  pub tags-end : (n : ℕ) (table : List ℕ) → n ≡ length table / 3 → sizedBytes false plain (λ xs. each (write tag) xs) (map meaning (chunks n 3 table)) ++ [] ≡ tagsBytes lent table
+  unfolding rowsOf
+  tags-end n table h = append-nil _ ∙ ap (λ (k : ℕ). sizedBytes false plain (λ xs. each (write tag) xs) (map meaning (chunks k 3 table))) h ∙ tags-bytes table
 
   -- ---- no fault: a cell is below 2^64, and so is the size of what is lent
 

@@ -1,5 +1,5 @@
 -- The walk over a table's rows: a row's cells in the table, ranges judged row by row, and bytes written and counted row by row.
-use mathlib.Core.Bool.{Bool, _&&_, and-false, and-true, cond, false, true}
+use mathlib.Core.Bool.{Bool, and-false, and-true, cond, false, true}
 use mathlib.Core.List.{List, [], _++_}
 use mathlib.Core.Logic.{_≢_}
 use mathlib.Core.Path.{_∙_, _≡_, ap, ap₂, refl, sym}

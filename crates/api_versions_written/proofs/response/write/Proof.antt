@@ -1,9 +1,10 @@
 -- A version that is not known is refused, and at every other the promise is that of the walk.
 use native.Mathlib.Omega.{arith}
-use mathlib.Core.Path.{_∙_, ap, sym}
+use mathlib.Core.Path.{_∙_, ap, refl}
 use mir.Facts.{toZ-ofZ}
 use Rattle.primitives.specs.Answers.{versionOf}
-use Rattle.api_versions_written.proofs.Whole.{response-written, version-refused}
+use Rattle.primitives.proofs.Versions.{unwritten}
+use Rattle.api_versions_written.proofs.Whole.{response-written}
 use borrow.Author.Needs.{needs}
 use Rattle.api_versions_written.proofs.response.write.Statement.{statement}
 use Rattle.api_versions_written.proofs.response.write.Tie as tie
@@ -15,7 +16,7 @@ at-requires : tie.Need-at-requires
 at-requires c κs = search needs
 
 returns : tie.Need-returns
-returns c = version-refused _ _ (c .before .before .version-of .ensures ∙ ap versionOf (toZ-ofZ (c .before .before .before .before .before .before .before .fits .version))) (c .before .if1 .taken) _ _ _ _ (c .at .ensures)
+returns c = unwritten _ _ _ (c .before .before .version-of .ensures ∙ ap versionOf (toZ-ofZ (c .before .before .before .before .before .before .before .fits .version))) (c .before .if1 .taken) _ _ _ _ (c .at .ensures)
 
 time-requires : tie.Need-time-requires
 time-requires c κs = search needs
