@@ -12,7 +12,7 @@ use borrow.Author.Tests.{ltb-false}
 use Rattle.layout.specs.Reading.{Refusal, Res, because, ok}
 use Rattle.layout.specs.Rows.{Shape, at, standing, stands, tagRows}
 use Rattle.layout.specs.Tables.{Tables, all, arrays, from, kindIn, kindOf, rowWidth, width}
-use Rattle.layout.specs.Answers.{Answer, accepted, most, readAnswer, refused, shape, widths}
+use Rattle.layout.specs.Answers.{Answer, accepted, readAnswer, refused, shape, widths}
 use Rattle.layout.specs.Messages.ApiVersions as Api
 use Rattle.layout.proofs.Local.{not-ok}
 use Rattle.layout.proofs.Proper.{api-response}
@@ -27,7 +27,7 @@ use Rattle.rows.proofs.Close.{slices}
 use Rattle.rows.proofs.OneTable.{nil}
 use Rattle.rows.proofs.Reply.{answers-fits, answers-left, answers-long, answers-needs, answers-no, short}
 use Rattle.api_versions.specs.Answers.{ofResponse}
-use Rattle.api_versions.specs.Shapes.{bodyShape, keyShape, tagsIf, tailShape}
+use Rattle.api_versions.specs.Shapes.{bodyShape, keyShape, responseShape, tagsIf, tailShape}
 use Rattle.api_versions.specs.Walks.{isLeft, ofMeasured}
 use Rattle.api_versions.specs.declared.ResponseBody.{ResponseBody}
 use Rattle.api_versions.specs.declared.response.Measured.{Measured}
@@ -43,8 +43,8 @@ unfolding widths from kindOf kindIn arrays rowWidth width shape at stands standi
 row-widths = refl
 
 -- the layout of a version, by what sets it apart
-pub shape-is : (v : ℕ) → v ≤ 3 → shape Api.response v ≡ bodyShape (leb 1 v) (leb 3 v)
-unfolding bodyShape tailShape keyShape tagsIf shape at stands standing tagRows Api.keyRows Api.responseRows
+pub shape-is : (v : ℕ) → v ≤ 3 → shape Api.response v ≡ responseShape (leb 1 v) (leb 3 v)
+unfolding shape at stands standing tagRows Api.keyRows Api.responseRows
 shape-is zero h = refl
 shape-is (suc zero) h = refl
 shape-is (suc (suc zero)) h = refl
@@ -95,6 +95,7 @@ module _ (w : Bool) (v : ℕ) (known : v ≤ 3) (s is ts : List ℕ) (size : len
   walked js us = on (walk w (bodyShape (leb 1 v) (leb 3 v)) 0 (own [] ∷ tab js 0 ∷ tab us 0 ∷ [])) s 0
 
   as-shape : (js us : List ℕ) → walked js us ≡ on (walk w (shape Api.response v) 0 (own [] ∷ tab js 0 ∷ tab us 0 ∷ [])) s 0
+  unfolding bodyShape tailShape keyShape tagsIf
   as-shape js us = ap (λ (l : Shape). on (walk w l 0 (own [] ∷ tab js 0 ∷ tab us 0 ∷ [])) s 0) (sym (shape-is v known))
 
   abbrev Reply : Answer → List ℕ → List ℕ → Type 0

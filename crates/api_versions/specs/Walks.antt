@@ -11,7 +11,6 @@ use Rattle.primitives.specs.Answers.{ofRefusal}
 use Rattle.rows.specs.Store.{State, Tab, own, tab}
 use Rattle.api_versions.specs.Answers.{ofResponse, ofThrottle}
 use Rattle.api_versions.specs.Shapes.{keyFront}
-use Rattle.api_versions.specs.declared.ResponseBody.{ResponseBody}
 use Rattle.api_versions.specs.declared.response.Key.{Key}
 use Rattle.api_versions.specs.declared.response.Rows.{Rows}
 use Rattle.api_versions.specs.declared.response.Tail.{Tail}

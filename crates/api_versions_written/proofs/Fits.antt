@@ -11,7 +11,8 @@ use Rattle.layout.specs.Tables.{all, rowsOf}
 use Rattle.layout.specs.Write.{unless}
 use Rattle.rows.proofs.Chunks.{row-cell}
 use Rattle.writers.specs.Put.{within}
-use Rattle.api_versions_written.specs.Responses.{itemsSize, responseFault, responseGood, responseHolds, rowHolds, throttleHolds}
+use Rattle.layout.specs.Rows as Rows
+use Rattle.api_versions_written.specs.Responses.{responseFault, responseGood, responseHolds, rowHolds, throttleHolds}
 
 -- ---- the three numbers of a row
 
@@ -48,30 +49,30 @@ module _ (t f : Bool) (n : ℕ) where
   throttle-lacking h = sym (rw h)
 
   -- n items
-  pub countable-compact : f ≡ true → ltb n 18446744073709551615 ≡ ltb n (limit (itemsSize f))
+  pub countable-compact : f ≡ true → ltb n 18446744073709551615 ≡ ltb n (limit (Rows.items f))
   countable-compact h = sym (rw h)
 
-  pub countable-fixed : f ≡ false → ltb n 2147483648 ≡ ltb n (limit (itemsSize f))
+  pub countable-fixed : f ≡ false → ltb n 2147483648 ≡ ltb n (limit (Rows.items f))
   countable-fixed h = sym (rw h)
 
 module _ (t f : Bool) (error n : ℕ) (items : List ℕ) where
   pub error-wide : (a : Bool) → a ≡ within 32768 error → a ≡ false → false ≡ responseHolds t f error n items
   unfolding responseHolds holds within
-  error-wide a e k = sym (ap (λ (x : Bool). x && ((ltb (length items / 4) (limit (itemsSize f)) && all rowHolds (rowsOf 4 items)) && throttleHolds t n)) (sym e ∙ k))
+  error-wide a e k = sym (ap (λ (x : Bool). x && ((ltb (length items / 4) (limit (Rows.items f)) && all rowHolds (rowsOf 4 items)) && throttleHolds t n)) (sym e ∙ k))
 
   module _ (a : Bool) (i : a ≡ within 32768 error) (j : a ≡ true) where
     holds-error : holds w16 error ≡ true
     unfolding holds within
     holds-error = sym i ∙ j
 
-    pub items-many : (b : Bool) → b ≡ ltb (length items / 4) (limit (itemsSize f)) → b ≡ false → false ≡ responseHolds t f error n items
+    pub items-many : (b : Bool) → b ≡ ltb (length items / 4) (limit (Rows.items f)) → b ≡ false → false ≡ responseHolds t f error n items
     unfolding responseHolds
     items-many b e k = sym (rw (holds-error, ← e, k))
 
-    module _ (b : Bool) (e : b ≡ ltb (length items / 4) (limit (itemsSize f))) (k : b ≡ true) (c : Bool) (l : c ≡ throttleHolds t n) where
+    module _ (b : Bool) (e : b ≡ ltb (length items / 4) (limit (Rows.items f))) (k : b ≡ true) (c : Bool) (l : c ≡ throttleHolds t n) where
       pub throttle-wide : c ≡ false → false ≡ responseHolds t f error n items
       unfolding responseHolds
-      throttle-wide m = sym (rw (holds-error, ← l, m) (and-false (ltb (length items / 4) (limit (itemsSize f)) && all rowHolds (rowsOf 4 items))))
+      throttle-wide m = sym (rw (holds-error, ← l, m) (and-false (ltb (length items / 4) (limit (Rows.items f)) && all rowHolds (rowsOf 4 items))))
 
       pub response-last : c ≡ true → (r : Bool) → r ≡ all rowHolds (rowsOf 4 items) → r ≡ responseHolds t f error n items
       unfolding responseHolds

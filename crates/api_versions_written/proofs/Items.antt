@@ -17,7 +17,8 @@ use Rattle.rows.proofs.Capped.{capped-all, capped-as, capped-next, capped-none}
 use Rattle.rows.proofs.Chunks.{rows-first, rows-part}
 use Rattle.rows.proofs.Times.{behind, behind-next, behind-none, times-at, times-many}
 use Rattle.tags_written.proofs.Meaning.{meaning, tag, tags-bytes, tags-value}
-use Rattle.api_versions_written.specs.Responses.{itemBytes, itemShape, itemsBytes, keyBytes, tagCells, tagsPart, told}
+use Rattle.api_versions.specs.Shapes.{itemShape}
+use Rattle.api_versions_written.specs.Responses.{itemBytes, itemsBytes, keyBytes, tagCells, tagsPart, told}
 use Rattle.api_versions_written.proofs.Walk.{cells-most}
 
 module _ (lent : List ℕ) where

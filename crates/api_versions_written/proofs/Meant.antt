@@ -15,7 +15,9 @@ use Rattle.rows.proofs.Faults.{or-none, or-unless}
 use Rattle.rows.proofs.Times.{times-many}
 use Rattle.tags_written.proofs.Meaning.{meaning, tags-clean, tags-end}
 use Rattle.writers.specs.Put.{sizeOf}
-use Rattle.api_versions_written.specs.Responses.{endBytes, formOf, itemShape, itemsSize, rowHolds, tagCells, tagsPart, tagsShape, throttleBytes, throttleHolds, throttleShape, told}
+use Rattle.layout.specs.Rows as Rows
+use Rattle.api_versions.specs.Shapes.{itemShape, tagsShape, throttleShape}
+use Rattle.api_versions_written.specs.Responses.{endBytes, formOf, rowHolds, tagCells, tagsPart, throttleBytes, throttleHolds, told}
 use Rattle.api_versions_written.proofs.Items.{item-value, itemMeant, taken}
 
 count-most : (c : ℕ) → count c ≤ c
@@ -98,27 +100,27 @@ module _ (lent : List ℕ) (l : length lent < 2 ^ 64) where
 
   -- ---- what stands behind the items
 
-  abbrev pub endMeant : (t f : Bool) → ℕ → ℕ → List ℕ → Value (List ℕ) (throttleShape t (tagsShape f))
+  abbrev pub endMeant : (t f : Bool) → ℕ → ℕ → List ℕ → Value (List ℕ) (throttleShape t (tagsShape f 2))
   endMeant true true n own table = (n, (map (meaning lent) (chunks (count own) 3 table), tt))
   endMeant true false n own table = (n, tt)
   endMeant false true n own table = (map (meaning lent) (chunks (count own) 3 table), tt)
   endMeant false false n own table = tt
 
-  pub end-value : (t f : Bool) (k m own : ℕ) (items table : List ℕ) → valueOf lent (throttleShape t (tagsShape f)) 0 ((k ∷ m ∷ own ∷ []) ∷ items ∷ table ∷ []) .0 ≡ endMeant t f (getD (chosen (0 ∷ []) (k ∷ m ∷ [])) 0 0) own table
+  pub end-value : (t f : Bool) (k m own : ℕ) (items table : List ℕ) → valueOf lent (throttleShape t (tagsShape f 2)) 0 ((k ∷ m ∷ own ∷ []) ∷ items ∷ table ∷ []) .0 ≡ endMeant t f (getD (chosen (0 ∷ []) (k ∷ m ∷ [])) 0 0) own table
   unfolding valueOf pop width basicOf itemsOf
   end-value true true k m own items table = λ i. (getD (chosen (0 ∷ []) (k ∷ m ∷ [])) 0 0, (taken lent (count own) [] items table i .0, tt))
   end-value true false k m own items table = refl
   end-value false true k m own items table = λ i. (taken lent (count own) [] items table i .0, tt)
   end-value false false k m own items table = refl
 
-  pub end-bytes : (t f : Bool) (n own : ℕ) (table : List ℕ) → (f ≡ true → count own ≡ length table / 3) → write (throttleShape t (tagsShape f)) (endMeant t f n own table) ≡ endBytes t f lent n table
+  pub end-bytes : (t f : Bool) (n own : ℕ) (table : List ℕ) → (f ≡ true → count own ≡ length table / 3) → write (throttleShape t (tagsShape f 2)) (endMeant t f n own table) ≡ endBytes t f lent n table
   unfolding write writeBasic endBytes throttleBytes tagsPart
   end-bytes true true n own table h = ap (λ (x : List ℕ). bytes 4 n ++ x) (tags-end lent (count own) table (h refl))
   end-bytes true false n own table h = refl
   end-bytes false true n own table h = tags-end lent (count own) table (h refl)
   end-bytes false false n own table h = refl
 
-  pub end-fault : (t f : Bool) (n own : ℕ) (table : List ℕ) → count own < 2 ^ 64 → Cells table → fault (throttleShape t (tagsShape f)) (endMeant t f n own table) ≡ unless (throttleHolds t n) 11
+  pub end-fault : (t f : Bool) (n own : ℕ) (table : List ℕ) → count own < 2 ^ 64 → Cells table → fault (throttleShape t (tagsShape f 2)) (endMeant t f n own table) ≡ unless (throttleHolds t n) 11
   unfolding fault basicFault throttleHolds unless
   end-fault true true n own table o h = rw (tags-clean lent (count own) table o h l) (ap (or (unless (holds w32 n) 11)) (or-none 0) ∙ or-none (unless (holds w32 n) 11))
   end-fault true false n own table o h = or-none (unless (holds w32 n) 11)
@@ -132,14 +134,14 @@ module _ (lent : List ℕ) (l : length lent < 2 ^ 64) where
     abbrev pub behindItems : Bool → Tables
     behindItems f = own ∷ drop (count c * 4) items ∷ drop (cellsOf f (chunks (count c) 4 items)) tags ∷ []
 
-    pub front-bytes : (f : Bool) → write (field (number w16) (array (itemsSize f) 1 (itemShape f) r)) (valueOf lent (field (number w16) (array (itemsSize f) 1 (itemShape f) r)) 0 ((error ∷ c ∷ own) ∷ items ∷ tags ∷ []) .0)
+    pub front-bytes : (f : Bool) → write (field (number w16) (array (Rows.items f) 1 (itemShape f) r)) (valueOf lent (field (number w16) (array (Rows.items f) 1 (itemShape f) r)) 0 ((error ∷ c ∷ own) ∷ items ∷ tags ∷ []) .0)
         ≡ bytes 2 error ++ ((lengthBytes (sizeOf (formOf f)) (count c) ++ each (write (itemShape f)) (times (count c) (valueOf lent (itemShape f) 1) ([] ∷ items ∷ tags ∷ []) .0)) ++ write r (valueOf lent r 0 (behindItems f) .0))
     unfolding write writeBasic valueOf pop width basicOf itemsOf sizedBytes lengthBytes
     front-bytes true = rw (times-state lent true (count c) own items tags, own-apart lent true (count c) own [] items tags, times-many (valueOf lent (itemShape true) 1) (count c) ([] ∷ items ∷ tags ∷ []))
     front-bytes false = rw (times-state lent false (count c) own items tags, own-apart lent false (count c) own [] items tags, times-many (valueOf lent (itemShape false) 1) (count c) ([] ∷ items ∷ tags ∷ []))
 
-    pub front-fault : (f : Bool) → Cells items → Cells tags → fault (field (number w16) (array (itemsSize f) 1 (itemShape f) r)) (valueOf lent (field (number w16) (array (itemsSize f) 1 (itemShape f) r)) 0 ((error ∷ c ∷ own) ∷ items ∷ tags ∷ []) .0)
-        ≡ or (unless (holds w16 error) 11) (or (or (unless (ltb (count c) (limit (itemsSize f))) 11) (unless (all rowHolds (chunks (count c) 4 items)) 11)) (fault r (valueOf lent r 0 (behindItems f) .0)))
+    pub front-fault : (f : Bool) → Cells items → Cells tags → fault (field (number w16) (array (Rows.items f) 1 (itemShape f) r)) (valueOf lent (field (number w16) (array (Rows.items f) 1 (itemShape f) r)) 0 ((error ∷ c ∷ own) ∷ items ∷ tags ∷ []) .0)
+        ≡ or (unless (holds w16 error) 11) (or (or (unless (ltb (count c) (limit (Rows.items f))) 11) (unless (all rowHolds (chunks (count c) 4 items)) 11)) (fault r (valueOf lent r 0 (behindItems f) .0)))
     unfolding fault basicFault valueOf pop width basicOf itemsOf sizedFault
     front-fault true h g = rw (times-state lent true (count c) own items tags, times-many (valueOf lent (itemShape true) 1) (count c) (own ∷ items ∷ tags ∷ []), items-fault true (count c) own items tags h g)
     front-fault false h g = rw (times-state lent false (count c) own items tags, times-many (valueOf lent (itemShape false) 1) (count c) (own ∷ items ∷ tags ∷ []), items-fault false (count c) own items tags h g)

@@ -2,18 +2,17 @@
 use mathlib.Core.Bool.{Bool, _&&_, and-true, cond, false, true}
 use mathlib.Core.List.{List, [], _++_, _∷_}
 use mathlib.Core.Path.{_∙_, _≡_, ap, ap₂, refl, sym}
-use Prim.Native.Nat.{_*_, _+_, _-_, _/_, _<_, _^_, _≤_, suc, zero, ℕ}
+use Prim.Native.Nat.{_*_, _+_, _-_, _/_, _<_, _^_, _≤_, ℕ}
 use native.Mathlib.Nat.{add-zero}
 use native.Mathlib.Omega.{arith}
 use lib.Dec.{eqb, leb, lit≤, ltb}
 use lib.IntN.{ℤ, pos}
 use lib.ListN.{drop, getD, length, length-drop}
 use lib.Seq.{getD-drop}
-use Rattle.layout.specs.Answers.{Answer, body, made, meant, offered, shape, stored, writeAlone, writeAnswer}
-use Rattle.layout.specs.Messages.ApiVersions.{keyRows, response, responseRows}
+use Rattle.layout.specs.Answers.{Answer, body, made, meant, offered, stored, writeAlone, writeAnswer}
+use Rattle.layout.specs.Messages.ApiVersions.{response}
 use Rattle.layout.specs.Primitives.{bytes, holds, lengthBytes, limit, w16}
 use Rattle.layout.specs.Reading.{bad, because}
-use Rattle.layout.specs.Rows.{at, stands, standing, tagRows}
 use Rattle.layout.specs.Tables.{Tables, addsUp, all, arrays, asked, chosen, chunks, count, from, good, goodCells, goodCount, goodRow, goodSpan, kindIn, kindOf, rowWidth, rowsAt, rowsOf, sum, times, valueOf, width}
 use Rattle.layout.specs.Write.{each, fault, or, unless, write}
 use Rattle.layout.proofs.Sums.{sum-eq, sum-zero}
@@ -26,21 +25,14 @@ use Rattle.tags_written.proofs.Meaning.{tag-good}
 use Rattle.writers.specs.Put.{sizeOf}
 use Rattle.api_versions.specs.Answers.{ofThrottle}
 use Rattle.api_versions.specs.declared.Throttle.{Throttle}
-use Rattle.api_versions_written.specs.Responses.{arrayBytes, endBytes, formOf, itemShape, itemsBytes, itemsSize, ownFrom, responseBytes, responseFault, responseGood, responseHolds, responseShape, restBytes, rowHolds, tagsPart, tagsShape, throttleHolds, throttleOf, throttleShape, told, toldGood}
+use Rattle.layout.specs.Rows as Rows
+use Rattle.api_versions.proofs.Replies.{shape-is}
+use Rattle.api_versions.specs.Shapes.{itemShape, responseShape, tagsShape, throttleShape}
+use Rattle.api_versions_written.specs.Responses.{arrayBytes, endBytes, formOf, itemsBytes, ownFrom, responseBytes, responseFault, responseGood, responseHolds, restBytes, rowHolds, tagsPart, throttleHolds, throttleOf, told, toldGood}
 use Rattle.primitives.specs.Answers.{versionOf}
 use Rattle.primitives.proofs.Versions.{known}
 use Rattle.api_versions_written.proofs.Answer.{good-items, good-tags}
 use Rattle.api_versions_written.proofs.Meant.{Cells, cells-drop, cells-told, cellsOf, end-bytes, end-fault, end-value, endMeant, front-bytes, front-fault}
-
--- ---- the shape of a version
-
-pub is-shape : (v : ℕ) → v ≤ 3 → shape response v ≡ responseShape (leb 1 v) (leb 3 v)
-unfolding shape at stands standing tagRows responseRows keyRows
-is-shape zero h = refl
-is-shape (suc zero) h = refl
-is-shape (suc (suc zero)) h = refl
-is-shape (suc (suc (suc zero))) h = refl
-is-shape (suc (suc (suc (suc v)))) h = absurd (omega arith)
 
 -- ---- 13, at every version
 
@@ -105,10 +97,10 @@ module _ (lent : List ℕ) (l : length lent < 2 ^ 64) (error c k m own : ℕ) (i
     unfolding body meant responseBytes restBytes arrayBytes itemsBytes rowsOf
     is-body =
         let n : count c ≡ length items / 4 = good-items (length lent) c own items tags g in
-        front-bytes lent l (throttleShape t (tagsShape f)) error c (k ∷ m ∷ own ∷ []) items tags f
+        front-bytes lent l (throttleShape t (tagsShape f 2)) error c (k ∷ m ∷ own ∷ []) items tags f
         ∙ ap₂ (λ (j : ℕ) (x : List ℕ). bytes 2 error ++ ((lengthBytes (sizeOf (formOf f)) j ++ each (write (itemShape f)) (times j (valueOf lent (itemShape f) 1) ([] ∷ items ∷ tags ∷ []) .0)) ++ x)) n
-        (ap (write (throttleShape t (tagsShape f))) (end-value lent l t f k m own (drop (count c * 4) items) (drop (cellsOf f (chunks (count c) 4 items)) tags))
-        ∙ ap (λ (j : ℕ). write (throttleShape t (tagsShape f)) (endMeant lent l t f throttle own (drop (cellsOf f (chunks j 4 items)) tags))) n
+        (ap (write (throttleShape t (tagsShape f 2))) (end-value lent l t f k m own (drop (count c * 4) items) (drop (cellsOf f (chunks (count c) 4 items)) tags))
+        ∙ ap (λ (j : ℕ). write (throttleShape t (tagsShape f 2)) (endMeant lent l t f throttle own (drop (cellsOf f (chunks j 4 items)) tags))) n
         ∙ end-bytes lent l t f throttle own (rest f) (own-rows f)
         ∙ own-begin f)
 
@@ -118,11 +110,11 @@ module _ (lent : List ℕ) (l : length lent < 2 ^ 64) (error c k m own : ℕ) (i
     unfolding meant responseHolds rowsOf
     is-fault h i o =
         let n : count c ≡ length items / 4 = good-items (length lent) c own items tags g in
-        let e : Bool = ltb (length items / 4) (limit (itemsSize f)) in
+        let e : Bool = ltb (length items / 4) (limit (Rows.items f)) in
         let a : Bool = all rowHolds (rowsOf 4 items) in
-        front-fault lent l (throttleShape t (tagsShape f)) error c (k ∷ m ∷ own ∷ []) items tags f h i
-        ∙ ap₂ (λ (j x : ℕ). or (unless (holds w16 error) 11) (or (or (unless (ltb j (limit (itemsSize f))) 11) (unless (all rowHolds (chunks j 4 items)) 11)) x)) n
-        (ap (fault (throttleShape t (tagsShape f))) (end-value lent l t f k m own (drop (count c * 4) items) (drop (cellsOf f (chunks (count c) 4 items)) tags))
+        front-fault lent l (throttleShape t (tagsShape f 2)) error c (k ∷ m ∷ own ∷ []) items tags f h i
+        ∙ ap₂ (λ (j x : ℕ). or (unless (holds w16 error) 11) (or (or (unless (ltb j (limit (Rows.items f))) 11) (unless (all rowHolds (chunks j 4 items)) 11)) x)) n
+        (ap (fault (throttleShape t (tagsShape f 2))) (end-value lent l t f k m own (drop (count c * 4) items) (drop (cellsOf f (chunks (count c) 4 items)) tags))
         ∙ end-fault lent l t f throttle own (drop (cellsOf f (chunks (count c) 4 items)) tags) (omega (arith, good-tags (length lent) c own items tags g)) (cells-drop (cellsOf f (chunks (count c) 4 items)) tags i))
         ∙ ap (λ (x : ℕ). or (unless (holds w16 error) 11) (or x (unless (throttleHolds t throttle) 11))) (or-unless e a 10)
         ∙ ap (or (unless (holds w16 error) 11)) (or-unless (e && a) (throttleHolds t throttle) 10)
@@ -133,7 +125,7 @@ module _ (lent : List ℕ) (l : length lent < 2 ^ 64) (error c k m own : ℕ) (i
   answer : (v : ℕ) → v ≤ 3 → Cells items → Cells tags → length tags < 2 ^ 64 → (out : List ℕ) → writeAnswer response (pos v) lent lentRows out ≡ writeAlone (responseFault (leb 1 v) (leb 3 v) (length lent) error c throttle own items tags) (responseBytes (leb 1 v) (leb 3 v) lent error throttle own items tags) out
   unfolding writeAnswer made writeAlone responseFault
   answer v h i j o out =
-      rw (le-true v 3 h, is-shape v h, is-shape 0 (lit≤ tt), is-good (length lent) error c k m own items tags) (ap (stored out) (go (responseGood (length lent) c own items tags) refl))
+      rw (le-true v 3 h, shape-is v h, shape-is 0 (lit≤ tt), is-good (length lent) error c k m own items tags) (ap (stored out) (go (responseGood (length lent) c own items tags) refl))
     where
       go : (b : Bool) → responseGood (length lent) c own items tags ≡ b →
           cond b (offered (fault (responseShape (leb 1 v) (leb 3 v)) (meant lent lentRows (responseShape (leb 1 v) (leb 3 v)))) (body lent lentRows (responseShape (leb 1 v) (leb 3 v)))) (bad (because 13 0))

@@ -5,33 +5,15 @@ use mathlib.Core.List.{List, [], _++_, _∷_}
 use Prim.Native.Nat.{_*_, _+_, _-_, _/_, ℕ}
 use lib.Dec.{eqb, ltb}
 use lib.ListN.{drop, getD, length, take}
+use Rattle.api_versions.specs.Shapes.{itemShape}
 use Rattle.api_versions.specs.declared.Throttle.{Throttle}
-use Rattle.layout.specs.Primitives.{Size, bytes, compact, empty, fixed, holds, lengthBytes, limit, plain, w16, w32}
-use Rattle.layout.specs.Rows.{Shape, absent, array, blob, end, field, lacking, natural, number, optional}
+use Rattle.layout.specs.Primitives.{bytes, holds, lengthBytes, limit, w16, w32}
+use Rattle.layout.specs.Rows as Rows
 use Rattle.layout.specs.Tables.{all, count, goodCount, rowsOf, sum, times, valueOf}
 use Rattle.layout.specs.Write.{each, unless, write}
 use Rattle.tags_written.specs.Tags.{allRanged, tagsBytes}
 use Rattle.writers.specs.declared.Form.{Form}
 use Rattle.writers.specs.Put.{sizeOf}
-
--- ---- the shapes of a version
-
-abbrev pub tagsShape : Bool → Shape
-tagsShape true = array plain 2 (field natural (field (blob plain) end)) end
-tagsShape false = lacking plain 2 (absent natural (absent (blob plain) end)) end
-
-abbrev pub itemShape : Bool → Shape
-itemShape f = field (number w16) (field (number w16) (field (number w16) (tagsShape f)))
-
-abbrev pub itemsSize : Bool → Size
-itemsSize f = cond f (compact empty) (fixed w32 empty)
-
-abbrev pub throttleShape : Bool → Shape → Shape
-throttleShape true r = field (optional (0 ∷ []) (number w32)) r
-throttleShape false r = absent (optional (0 ∷ []) (number w32)) r
-
-abbrev pub responseShape : Bool → Bool → Shape
-responseShape t f = field (number w16) (array (itemsSize f) 1 (itemShape f) (throttleShape t (tagsShape f)))
 
 -- ---- the bytes
 
@@ -113,7 +95,7 @@ unfoldable pub throttleHolds : Bool → ℕ → Bool
 throttleHolds t n = cond t (holds w32 n) true
 
 unfoldable pub responseHolds : Bool → Bool → ℕ → ℕ → List ℕ → Bool
-responseHolds t f error n items = holds w16 error && ((ltb (length items / 4) (limit (itemsSize f)) && all rowHolds (rowsOf 4 items)) && throttleHolds t n)
+responseHolds t f error n items = holds w16 error && ((ltb (length items / 4) (limit (Rows.items f)) && all rowHolds (rowsOf 4 items)) && throttleHolds t n)
 
 -- 13 before 11; 0 is neither
 unfoldable pub responseFault : Bool → Bool → ℕ → ℕ → ℕ → ℕ → ℕ → List ℕ → List ℕ → ℕ

@@ -118,10 +118,10 @@ fn body(
 // Measured and written, where nothing is refused.
 fn stored(
     out: &mut [u8],
-    flexible: bool,
-    lent: &[u8],
     name: &[u8],
     version: &[u8],
+    flexible: bool,
+    lent: &[u8],
     tags: &[u64],
 ) -> Written
     ensures { λ r. ⌜ replied r (now (out .exit)) ≡ writeAlone 0 (requestBytes flexible (now (lent .entry)) (now (name .entry)) (now (version .entry)) (now (tags .entry))) (now (out .entry)) ⌝ }
@@ -155,10 +155,10 @@ fn written(
     }
     stored(
         out,
-        flexible,
-        lent,
         bytes_of(lent, name),
         bytes_of(lent, version),
+        flexible,
+        lent,
         tags,
     )
 }

@@ -8,11 +8,12 @@ ghost use Prim.Native.Nat.{_+_, _*_, _/_, _<_, _^_, _≤_};
 ghost use Rattle.layout.specs.Answers.{writeAlone, writeAnswer};
 ghost use Rattle.layout.specs.Messages.ApiVersions as Api;
 ghost use Rattle.layout.specs.Primitives.{bytes, limit};
+ghost use Rattle.layout.specs.Rows as Rows;
 ghost use Rattle.layout.specs.Tables.{all, count, rowsOf, sum};
 ghost use Rattle.rows.specs.Step.{Capped};
 ghost use Rattle.writers.specs.Put.{replied};
 ghost use Rattle.api_versions.specs.Answers.{ofResponse};
-ghost use Rattle.api_versions_written.specs.Responses.{arrayBytes, endBytes, formOf, itemBytes, itemsBytes, itemsSize, keyBytes, responseBytes, responseFault, responseGood, responseHolds, restBytes, rowHolds, tagCells, tagsPart, tells, throttleBytes, throttleHolds, throttleOf, told};
+ghost use Rattle.api_versions_written.specs.Responses.{arrayBytes, endBytes, formOf, itemBytes, itemsBytes, keyBytes, responseBytes, responseFault, responseGood, responseHolds, restBytes, rowHolds, tagCells, tagsPart, tells, throttleBytes, throttleHolds, throttleOf, told};
 use api_versions::ResponseBody;
 use api_versions::Throttle;
 use primitives::BAD_TABLES;
@@ -99,7 +100,7 @@ fn all_fit(items: &[u64]) -> bool
 
 // Is the number of items one that the version can carry?
 fn is_countable(flexible: bool, n: usize) -> bool
-    ensures { λ r. ⌜ r ≡ ltb n (limit (itemsSize flexible)) ⌝ }
+    ensures { λ r. ⌜ r ≡ ltb n (limit (Rows.items flexible)) ⌝ }
 {
     if flexible {
         return n < 18446744073709551615;
@@ -136,12 +137,12 @@ fn refusal(
     throttle: bool,
     flexible: bool,
     size: usize,
+    items: &[u64],
+    tags: &[u64],
     error: u64,
     count: u64,
     n: u64,
     own: u64,
-    items: &[u64],
-    tags: &[u64],
 ) -> u8
     ensures { λ r. ⌜ r ≡ responseFault throttle flexible size error count n own (now (items .entry)) (now (tags .entry)) ⌝ }
 {
@@ -327,12 +328,12 @@ fn written(
         throttle,
         flexible,
         lent.len(),
+        items,
+        tags,
         error,
         count,
         n,
         own,
-        items,
-        tags,
     );
     if e != 0 {
         return Written::Refused(at(e, 0));

@@ -1,6 +1,6 @@
 -- The fields at the front of a row, read at once and stored at once; what stands behind them, an array or more, is read from there.
 use mathlib.Core.Bool.{Bool}
-use mathlib.Core.List.{List, [], _++_, _∷_}
+use mathlib.Core.List.{List, [], _∷_}
 use mathlib.Core.Path.{_∙_, _≡_, ap, refl, sym}
 use Prim.Native.Nat.{_+_, ℕ}
 use native.Mathlib.Nat.{add-zero, zero-add}

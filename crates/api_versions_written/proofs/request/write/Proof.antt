@@ -1,6 +1,6 @@
 -- A version that is not known is refused, and at every other the promise is that of the walk.
 use native.Mathlib.Omega.{arith}
-use mathlib.Core.Path.{_∙_, ap, refl}
+use mathlib.Core.Path.{_∙_, ap}
 use mir.Facts.{toZ-ofZ}
 use Rattle.primitives.specs.Answers.{versionOf}
 use Rattle.api_versions_written.proofs.RequestMeant.{request-written}
