@@ -24,7 +24,7 @@ use Rattle.api_versions.specs.Answers.{ofThrottle}
 use Rattle.api_versions.specs.Shapes.{bodyShape, keyShape, tagsIf, tailShape}
 use Rattle.api_versions.specs.Walks.{Before, behindItems, finish, inTables, ofMeasured, ofTail, ofThrottled, rowsIs, throttle}
 use Rattle.api_versions.specs.declared.Throttle.{Throttle}
-use Rattle.api_versions.specs.declared.response.Rows.{Rows}
+use Rattle.api_versions.specs.declared.items.Rows.{Rows}
 use Rattle.api_versions.specs.declared.response.Tail.{Tail}
 use Rattle.api_versions.specs.declared.response.Throttled.{Throttled}
 use Rattle.api_versions.specs.declared.response.Measured.{Measured}

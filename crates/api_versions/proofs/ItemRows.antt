@@ -21,8 +21,8 @@ use Rattle.tags.specs.Answers.{tagsShape}
 use Rattle.tags.specs.declared.Walked.{Walked}
 use Rattle.api_versions.specs.Shapes.{keyFront, keyShape, tagsIf}
 use Rattle.api_versions.specs.Walks.{inTables, ofKey, rowsIs}
-use Rattle.api_versions.specs.declared.response.Key.{Key}
-use Rattle.api_versions.specs.declared.response.Rows.{Rows}
+use Rattle.api_versions.specs.declared.items.Key.{Key}
+use Rattle.api_versions.specs.declared.items.Rows.{Rows}
 
 -- ---- its numbers
 

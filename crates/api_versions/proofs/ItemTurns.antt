@@ -10,7 +10,7 @@ use Rattle.rows.specs.Walk.{Runs, walk}
 use Rattle.rows.proofs.Loops.{Going, going-done, going-next, going-no, going-start}
 use Rattle.api_versions.specs.Shapes.{keyShape}
 use Rattle.api_versions.specs.Walks.{inTables, rowsIs}
-use Rattle.api_versions.specs.declared.response.Rows.{Rows}
+use Rattle.api_versions.specs.declared.items.Rows.{Rows}
 
 module _ (f : Bool) (s : List ℕ) (count p : ℕ) (is₀ ts₀ : List ℕ) where
   -- n items are left from place q on, with these tables and marks

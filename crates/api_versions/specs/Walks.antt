@@ -11,8 +11,8 @@ use Rattle.primitives.specs.Answers.{ofRefusal}
 use Rattle.rows.specs.Store.{State, Tab, own, tab}
 use Rattle.api_versions.specs.Answers.{ofResponse, ofThrottle}
 use Rattle.api_versions.specs.Shapes.{keyFront}
-use Rattle.api_versions.specs.declared.response.Key.{Key}
-use Rattle.api_versions.specs.declared.response.Rows.{Rows}
+use Rattle.api_versions.specs.declared.items.Key.{Key}
+use Rattle.api_versions.specs.declared.items.Rows.{Rows}
 use Rattle.api_versions.specs.declared.response.Tail.{Tail}
 use Rattle.api_versions.specs.declared.response.Throttled.{Throttled}
 use Rattle.api_versions.specs.declared.response.Measured.{Measured}

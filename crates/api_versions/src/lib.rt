@@ -3,6 +3,7 @@
 use primitives::Refusal;
 
 pub mod agreement;
+pub mod items;
 pub mod request;
 pub mod response;
 

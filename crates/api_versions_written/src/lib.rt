@@ -1,4 +1,5 @@
 // ApiVersions written: each call judges the version, the tables and the values first, then measures the body, and writes it last.
 
+mod judge;
 pub mod request;
 pub mod response;

@@ -5,8 +5,8 @@ use Prim.Native.Nat.{_-_}
 use Rattle.rows.proofs.Judged.{Judged, judged-end, judged-more, judged-start, judged-stop}
 use Rattle.api_versions_written.specs.Responses.{rowHolds}
 use Rattle.api_versions_written.proofs.Fits.{row-told}
-use Rattle.api_versions_written.proofs.response.all_fit.Statement.{statement}
-use Rattle.api_versions_written.proofs.response.all_fit.Tie as tie
+use Rattle.api_versions_written.proofs.judge.all_fit.Statement.{statement}
+use Rattle.api_versions_written.proofs.judge.all_fit.Tie as tie
 
 abbrev Inv-loop : tie.InvT-loop
 Inv-loop items n i₀ i = Judged rowHolds 4 items i

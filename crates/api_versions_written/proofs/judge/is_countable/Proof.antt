@@ -1,7 +1,7 @@
 -- The limit is that of the version's form.
 use Rattle.api_versions_written.proofs.Fits.{countable-compact, countable-fixed}
-use Rattle.api_versions_written.proofs.response.is_countable.Statement.{statement}
-use Rattle.api_versions_written.proofs.response.is_countable.Tie as tie
+use Rattle.api_versions_written.proofs.judge.is_countable.Statement.{statement}
+use Rattle.api_versions_written.proofs.judge.is_countable.Tie as tie
 
 returns : tie.Need-returns
 returns c = countable-compact (c .before .args .flexible) _ _ (c .if1 .taken)

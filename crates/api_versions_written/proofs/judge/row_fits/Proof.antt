@@ -2,8 +2,8 @@
 use borrow.Author.Tests.{not-false, not-true}
 use Rattle.api_versions_written.proofs.Fits.{key-wide, low-wide, row-last}
 use borrow.Author.Needs.{needs}
-use Rattle.api_versions_written.proofs.response.row_fits.Statement.{statement}
-use Rattle.api_versions_written.proofs.response.row_fits.Tie as tie
+use Rattle.api_versions_written.proofs.judge.row_fits.Statement.{statement}
+use Rattle.api_versions_written.proofs.judge.row_fits.Tie as tie
 
 fits-requires : tie.Need-fits-requires
 fits-requires c κs = search needs

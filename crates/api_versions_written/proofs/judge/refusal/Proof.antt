@@ -2,8 +2,8 @@
 use borrow.Author.Tests.{not-false, not-true}
 use Rattle.api_versions_written.proofs.Fits.{fault-bad, fault-none, fault-wide}
 use borrow.Author.Needs.{needs}
-use Rattle.api_versions_written.proofs.response.refusal.Statement.{statement}
-use Rattle.api_versions_written.proofs.response.refusal.Tie as tie
+use Rattle.api_versions_written.proofs.judge.refusal.Statement.{statement}
+use Rattle.api_versions_written.proofs.judge.refusal.Tie as tie
 
 is-good-requires : tie.Need-is-good-requires
 is-good-requires c κs = search needs

@@ -3,8 +3,8 @@ use native.Mathlib.Omega.{arith}
 use borrow.Author.Tests.{not-false, not-true}
 use Rattle.api_versions_written.proofs.Counts.{good-few, good-last, good-other, good-untold}
 use borrow.Author.Needs.{needs}
-use Rattle.api_versions_written.proofs.response.is_good.Statement.{statement}
-use Rattle.api_versions_written.proofs.response.is_good.Tie as tie
+use Rattle.api_versions_written.proofs.judge.is_good.Statement.{statement}
+use Rattle.api_versions_written.proofs.judge.is_good.Tie as tie
 
 returns : tie.Need-returns
 returns c = good-other _ _ _ _ _ (c .if1 .taken)

@@ -3,8 +3,8 @@ use mathlib.Core.Path.{_≡_, refl}
 use lib.ListN.{length}
 use Rattle.api_versions.proofs.ItemTurns.{Left, left-all, left-next, left-no, left-none}
 use borrow.Author.Needs.{needs}
-use Rattle.api_versions.proofs.response.items_in.Statement.{statement}
-use Rattle.api_versions.proofs.response.items_in.Tie as tie
+use Rattle.api_versions.proofs.items.items_in.Statement.{statement}
+use Rattle.api_versions.proofs.items.items_in.Tie as tie
 
 abbrev Inv-loop : tie.InvT-loop
 Inv-loop s p flexible count items₀ tags₀ left₀ place₀ row₀ tag₀ items tags left place row tag = Left flexible s count p items₀ tags₀ left place items row tags tag × ((length items ≡ length items₀) × (length tags ≡ length tags₀))

@@ -3,8 +3,8 @@ use mathlib.Core.Path.{_∙_, ap, sym}
 use Rattle.primitives.specs.Answers.{ofNumber}
 use Rattle.api_versions.proofs.ItemRows.{key-no, key-took, max-no, min-no}
 use borrow.Author.Needs.{needs}
-use Rattle.api_versions.proofs.response.key_at.Statement.{statement}
-use Rattle.api_versions.proofs.response.key_at.Tie as tie
+use Rattle.api_versions.proofs.items.key_at.Statement.{statement}
+use Rattle.api_versions.proofs.items.key_at.Tie as tie
 
 int16-at-requires : tie.Need-int16-at-requires
 int16-at-requires c κs = search needs

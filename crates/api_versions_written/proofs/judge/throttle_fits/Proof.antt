@@ -1,8 +1,8 @@
 -- A version that lacks the field asks nothing of it.
 use Rattle.api_versions_written.proofs.Fits.{throttle-lacking, throttle-there}
 use borrow.Author.Needs.{needs}
-use Rattle.api_versions_written.proofs.response.throttle_fits.Statement.{statement}
-use Rattle.api_versions_written.proofs.response.throttle_fits.Tie as tie
+use Rattle.api_versions_written.proofs.judge.throttle_fits.Statement.{statement}
+use Rattle.api_versions_written.proofs.judge.throttle_fits.Tie as tie
 
 fits-requires : tie.Need-fits-requires
 fits-requires c κs = search needs

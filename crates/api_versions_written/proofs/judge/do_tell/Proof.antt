@@ -2,8 +2,8 @@
 use borrow.Author.Needs.{needs}
 use Prim.Native.Nat.{_-_}
 use Rattle.api_versions_written.proofs.Counts.{Telling, telling-end, telling-more, telling-start, telling-stop}
-use Rattle.api_versions_written.proofs.response.do_tell.Statement.{statement}
-use Rattle.api_versions_written.proofs.response.do_tell.Tie as tie
+use Rattle.api_versions_written.proofs.judge.do_tell.Statement.{statement}
+use Rattle.api_versions_written.proofs.judge.do_tell.Tie as tie
 
 abbrev Inv-loop : tie.InvT-loop
 Inv-loop items n rows left₀ i₀ left i = Telling items n left i

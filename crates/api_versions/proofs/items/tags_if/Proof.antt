@@ -1,8 +1,8 @@
 -- A version that lacks tags has the cell of their absence in the row.
 use Rattle.api_versions.proofs.ItemRows.{tags-lacking, tags-there}
 use borrow.Author.Needs.{needs}
-use Rattle.api_versions.proofs.response.tags_if.Statement.{statement}
-use Rattle.api_versions.proofs.response.tags_if.Tie as tie
+use Rattle.api_versions.proofs.items.tags_if.Statement.{statement}
+use Rattle.api_versions.proofs.items.tags_if.Tie as tie
 
 tag-buffer-at-requires : tie.Need-tag-buffer-at-requires
 tag-buffer-at-requires c κs = search needs

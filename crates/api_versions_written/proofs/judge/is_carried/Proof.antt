@@ -2,8 +2,8 @@
 use borrow.Author.Tests.{not-false, not-true}
 use Rattle.api_versions_written.proofs.Fits.{error-wide, items-many, response-last, throttle-wide}
 use borrow.Author.Needs.{needs}
-use Rattle.api_versions_written.proofs.response.is_carried.Statement.{statement}
-use Rattle.api_versions_written.proofs.response.is_carried.Tie as tie
+use Rattle.api_versions_written.proofs.judge.is_carried.Statement.{statement}
+use Rattle.api_versions_written.proofs.judge.is_carried.Tie as tie
 
 fits-requires : tie.Need-fits-requires
 fits-requires c κs = search needs

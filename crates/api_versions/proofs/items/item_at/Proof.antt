@@ -1,8 +1,8 @@
 -- The numbers, the tags behind them, and one store of the numbers and the number of tags.
 use Rattle.api_versions.proofs.ItemRows.{item-no, item-no-tags, item-took}
 use borrow.Author.Needs.{needs}
-use Rattle.api_versions.proofs.response.item_at.Statement.{statement}
-use Rattle.api_versions.proofs.response.item_at.Tie as tie
+use Rattle.api_versions.proofs.items.item_at.Statement.{statement}
+use Rattle.api_versions.proofs.items.item_at.Tie as tie
 
 key-at-requires : tie.Need-key-at-requires
 key-at-requires c κs = search needs

@@ -1,0 +1,137 @@
+// What is refused of an ApiVersions response before a byte is written: tables that do not add up, and numbers that the version cannot carry.
+ghost use mathlib.Core.Path.{_≡_};
+ghost use mathlib.Core.List.{[], _∷_};
+ghost use lib.Dec.{ltb};
+ghost use Prim.Native.Nat.{_<_, _^_};
+ghost use Rattle.layout.specs.Primitives.{limit};
+ghost use Rattle.layout.specs.Rows as Rows;
+ghost use Rattle.layout.specs.Tables.{all, rowsOf};
+ghost use Rattle.api_versions_written.specs.Responses.{responseFault, responseGood, responseHolds, rowHolds, tells, throttleHolds};
+use primitives::BAD_TABLES;
+use primitives::TOO_WIDE;
+use tags_written::all_ranged;
+use tags_written::rows_told;
+use writers::write::fits;
+
+// ---- 13
+
+// Do the items' rows tell n tags in all?
+fn do_tell(items: &[u64], n: u64) -> bool
+    requires { ⌜ n < 2 ^ 63 ⌝ }
+    ensures { λ r. ⌜ r ≡ tells n (rowsOf 4 (now (items .entry))) ⌝ }
+{
+    let rows = items.len() / 4;
+    let mut left = n;
+    let mut i: usize = 0;
+    while i < rows {
+        let k = rows_told(items[i * 4 + 3]);
+        if left < k {
+            return false;
+        }
+        left = left - k;
+        i = i + 1;
+    }
+    left == 0
+}
+
+fn is_good(size: usize, count: u64, own: u64, items: &[u64], tags: &[u64]) -> bool
+    ensures { λ r. ⌜ r ≡ responseGood size count own (now (items .entry)) (now (tags .entry)) ⌝ }
+{
+    if count != (items.len() / 4) as u64 {
+        return false;
+    }
+    let rows = (tags.len() / 3) as u64;
+    let k = rows_told(own);
+    if rows < k {
+        return false;
+    }
+    if !do_tell(items, rows - k) {
+        return false;
+    }
+    all_ranged(size, tags)
+}
+
+// ---- 11
+
+fn row_fits(key: u64, low: u64, high: u64) -> bool
+    ensures { λ r. ⌜ r ≡ rowHolds (key ∷ low ∷ high ∷ []) ⌝ }
+{
+    if !fits(key, 32768) {
+        return false;
+    }
+    if !fits(low, 32768) {
+        return false;
+    }
+    fits(high, 32768)
+}
+
+fn all_fit(items: &[u64]) -> bool
+    ensures { λ r. ⌜ r ≡ all rowHolds (rowsOf 4 (now (items .entry))) ⌝ }
+{
+    let n = items.len() / 4;
+    let mut i: usize = 0;
+    while i < n {
+        if !row_fits(items[i * 4], items[i * 4 + 1], items[i * 4 + 2]) {
+            return false;
+        }
+        i = i + 1;
+    }
+    true
+}
+
+// Is the number of items one that the version can carry?
+fn is_countable(flexible: bool, n: usize) -> bool
+    ensures { λ r. ⌜ r ≡ ltb n (limit (Rows.items flexible)) ⌝ }
+{
+    if flexible {
+        return n < 18446744073709551615;
+    }
+    n < 2147483648
+}
+
+fn throttle_fits(throttle: bool, n: u64) -> bool
+    ensures { λ r. ⌜ r ≡ throttleHolds throttle n ⌝ }
+{
+    if throttle {
+        return fits(n, 2147483648);
+    }
+    true
+}
+
+fn is_carried(throttle: bool, flexible: bool, error: u64, n: u64, items: &[u64]) -> bool
+    ensures { λ r. ⌜ r ≡ responseHolds throttle flexible error n (now (items .entry)) ⌝ }
+{
+    if !fits(error, 32768) {
+        return false;
+    }
+    if !is_countable(flexible, items.len() / 4) {
+        return false;
+    }
+    if !throttle_fits(throttle, n) {
+        return false;
+    }
+    all_fit(items)
+}
+
+// 13, 11, or 0 for neither.
+pub fn refusal(
+    throttle: bool,
+    flexible: bool,
+    size: usize,
+    items: &[u64],
+    tags: &[u64],
+    error: u64,
+    count: u64,
+    n: u64,
+    own: u64,
+) -> u8
+    ensures { λ r. ⌜ r ≡ responseFault throttle flexible size error count n own (now (items .entry)) (now (tags .entry)) ⌝ }
+{
+    if !is_good(size, count, own, items, tags) {
+        return BAD_TABLES;
+    }
+    if !is_carried(throttle, flexible, error, n, items) {
+        return TOO_WIDE;
+    }
+    0
+}
