@@ -119,3 +119,16 @@ body("Version 2, three rows, throttle 100:", "0000 00000003 0012 0000 0003 0003 
 body("Version 3, three rows, one with a tag, throttle 100, an own tag:", "0000 04 0012 0000 0003 00 0003 0000 0009 01 07 01 aa 0001 0004 000c 00 00000064 01 09 00")
 body("Version 3, null items:", "0000 00 00000000 00")
 body("Nothing at all:", "")
+
+
+# The bytes of three items, the second with the tag 7 (data aa), throttle 100 and the own tag 9 (no data).
+def written(v):
+    rows = ((18, 0, 3, "00"), (3, 0, 9, "010701aa"), (1, 4, 12, "00"))
+    text = "0000" + ("04" if v == 3 else "00000003")
+    for key, low, high, tags in rows:
+        text += f"{key:04x}{low:04x}{high:04x}" + (tags if v == 3 else "")
+    return text + ("00000064" if v >= 1 else "") + ("010900" if v == 3 else "")
+
+
+for v in range(4):
+    body(f"Written at {v}:", written(v))

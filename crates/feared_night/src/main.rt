@@ -11,6 +11,8 @@ use api_versions::agreement;
 use api_versions::response;
 use libc::STDOUT_FILENO;
 use primitives::Refusal;
+use tags_written::part;
+use writers::Written;
 
 fn say(s: &[u8]) {
     io::write_all(STDOUT_FILENO, s);
@@ -196,6 +198,34 @@ fn body(name: &[u8], msg: &[u8]) {
     prefix(msg, 3, b"3");
 }
 
+// What was written, as a body.
+fn again(name: &[u8], r: Written, out: &[u8]) {
+    match r {
+        Written::Wrote(n) => body(name, part(out, 0, n as u64)),
+        Written::Refused(e) => refused(e),
+    }
+}
+
+// Three items, the second with a tag, a throttle time and an own tag: fields that the version lacks are dropped.
+fn written(version: i16, name: &[u8]) {
+    let mut out = [0u8; 40];
+    let fields = ResponseBody {
+        error: 0,
+        items: 3,
+        throttle: Throttle::Present(100),
+        tags: 1,
+    };
+    let r = api_versions_written::response::write(
+        &mut out,
+        version,
+        b"\xaa",
+        fields,
+        &[18, 0, 3, 0, 3, 0, 9, 1, 1, 4, 12, 0],
+        &[7, 0, 1, 9, 1, 0],
+    );
+    again(name, r, &out);
+}
+
 fn main() {
     body(
         b"E9, version 0, one row:",
@@ -230,4 +260,8 @@ fn main() {
         b"\x00\x00\x00\x00\x00\x00\x00\x00",
     );
     body(b"Nothing at all:", b"");
+    written(0, b"Written at 0:");
+    written(1, b"Written at 1:");
+    written(2, b"Written at 2:");
+    written(3, b"Written at 3:");
 }

@@ -1,4 +1,4 @@
--- The walk over a table's rows: a row's cells in the table, ranges judged row by row, and bytes written and counted row by row.
+-- The walk over a table's rows: ranges, parts of the lent bytes, bytes written row by row, and the counts that 13 asks for.
 use mathlib.Core.Bool.{Bool, and-false, and-true, cond, false, true}
 use mathlib.Core.List.{List, [], _++_}
 use mathlib.Core.Logic.{_≢_}
