@@ -11,7 +11,7 @@ use Rattle.layout.specs.Answers.{Answer, refused, writeAlone}
 use Rattle.layout.specs.Reading.{Refusal, because}
 use Rattle.layout.specs.Tables.{all, count, goodCount, rowsOf, sum}
 use Rattle.layout.proofs.Tests.{of-eq}
-use Rattle.rows.proofs.Judged.{both}
+use Rattle.layout.proofs.Proper.{both}
 use Rattle.tags_written.specs.Tags.{allRanged}
 use Rattle.api_versions_written.specs.Responses.{responseFault, responseGood, told, toldGood}
 

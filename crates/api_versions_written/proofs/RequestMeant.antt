@@ -19,7 +19,8 @@ use Rattle.layout.proofs.Sums.{sum-zero}
 use Rattle.layout.proofs.Tests.{le-true, lt-true, of-eq}
 use Rattle.rows.proofs.Chunks.{rows-many}
 use Rattle.rows.proofs.Faults.{or-none, or-unless}
-use Rattle.rows.proofs.Judged.{all-eq, both}
+use Rattle.layout.proofs.Proper.{both}
+use Rattle.rows.proofs.Judged.{all-eq}
 use Rattle.tags_written.specs.Tags.{allRanged, ranged, tagsBytes, tagsGood}
 use Rattle.tags_written.proofs.Meaning.{meaning, tag, tag-good, tags-clean, tags-end, tags-value}
 use Rattle.writers.specs.declared.Form.{Form}

@@ -10,10 +10,6 @@ use lib.Seq.{drop-cons}
 use Rattle.layout.specs.Tables.{all, rowsOf}
 use Rattle.rows.proofs.Chunks.{rows-many}
 
-pub both : (a b : Bool) → (a && b) ≡ true → (a ≡ true) × (b ≡ true)
-both true b e = (refl, e)
-both false b e = let z : _≡_ {A = ℕ} 0 1 = cc in absurd (omega arith)
-
 pub all-eq : {A : Type 0} (p q : A → Bool) → ((x : A) → p x ≡ q x) → (xs : List A) → all p xs ≡ all q xs
 unfolding all
 all-eq p q h [] = refl

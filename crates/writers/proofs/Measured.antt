@@ -1,6 +1,6 @@
 -- One walk, run twice: first over no room, where it only counts, and then over the output. What a call answers of the bytes that both promise.
-use mathlib.Core.List.{List, [], _++_, _∷_}
-use mathlib.Core.Path.{_∙_, _≡_, ap, refl, sym}
+use mathlib.Core.List.{List, [], _++_}
+use mathlib.Core.Path.{_∙_, _≡_, ap, sym}
 use Prim.Native.Nat.{_<_, _≤_, ℕ}
 use native.Mathlib.Omega.{arith}
 use lib.ListN.{drop, length}
@@ -8,17 +8,14 @@ use Rattle.layout.specs.Answers.{Answer, accepted, most, refused, writeAlone}
 use Rattle.layout.specs.Reading.{Refusal, because}
 use Rattle.layout.proofs.Tests.{le-false, le-true}
 use Rattle.rows.specs.Step.{Capped}
+use Rattle.rows.proofs.OneTable.{nil}
 use Rattle.rows.proofs.Capped.{capped-count, capped-over}
 use Rattle.primitives.specs.Answers.{noRoom}
-
-nothing : (e : List ℕ) → length e ≡ 0 → e ≡ []
-nothing [] h = refl
-nothing (x ∷ xs) h = absurd (omega arith)
 
 -- n counts the bytes, and e is what the walk left of no room
 module _ {bs e : List ℕ} {n : ℕ} (s : Capped bs [] n e) (out : List ℕ) where
   same : e ++ out ≡ out
-  same = ap (λ (x : List ℕ). x ++ out) (nothing e (s .long))
+  same = ap (λ (x : List ℕ). x ++ out) (nil e (s .long))
 
   pub measured-long : (r : Refusal) → r ≡ because 2 0 → most < n → _≡_ {A = Answer × List ℕ} (refused r, e ++ out) (writeAlone 0 bs out)
   unfolding writeAlone
