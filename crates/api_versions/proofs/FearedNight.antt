@@ -8,14 +8,12 @@ use native.Mathlib.Omega.{arith}
 use lib.IntN.{pos, ℤ}
 use lib.ListN.{length, take}
 use Rattle.layout.specs.Tables.{Tables}
-use Rattle.layout.specs.Answers.{Answer, Message, accepted, most, prefixRead, wholeRead}
+use Rattle.layout.specs.Answers.{Answer, accepted, most, prefixRead, wholeRead}
 use Rattle.layout.specs.Messages.ApiVersions as Api
-use Rattle.layout.proofs.Calls.{prefix-local}
+use Rattle.layout.proofs.Calls.{local-reply}
 use Rattle.layout.proofs.Demand3.{at-most-one, era}
-use Rattle.api_versions.specs.Answers.{accepting, ofRequestReply, ofResponseReply}
-use Rattle.api_versions.specs.declared.RequestReply.{RequestReply}
+use Rattle.api_versions.specs.Answers.{accepting, ofResponseReply}
 use Rattle.api_versions.specs.declared.ResponseReply.{ResponseReply}
-use Rattle.api_versions.proofs.RequestUnique as Request
 use Rattle.api_versions.proofs.Unique.{Told, response-unique, said}
 
 -- a reply, and the tables behind it, that `read_whole` may give where it is lent the tables of items and tags; what `read_answer` promises is the same
@@ -59,20 +57,8 @@ module _ (msg : List ℕ) (l₀ l₁ l₃ t₀ t₁ t₃ : List ℕ × List ℕ)
 
 -- ---- with other bytes behind the used ones the reply and the tables are the same
 
-module _ {R : Type 0} (say : R → Answer × Tables) (only : (o : Answer × Tables) (x y : R) → say x ≡ o → say y ≡ o → x ≡ y) (m : Message) where
-  local-reply : (msg behind : List ℕ) (v : ℤ) (lent : Tables) (x y : R) (r : List ℕ) (n : ℕ) (after : Tables) →
-      say x ≡ prefixRead m v lent msg → say x ≡ (accepted r n, after) → length (take n msg ++ behind) ≤ most → say y ≡ prefixRead m v lent (take n msg ++ behind) → y ≡ x
-  local-reply msg behind v lent x y r n after p a h q = only _ y x q (a ∙ sym (prefix-local m v lent msg behind r n after (sym p ∙ a) h))
-
 -- `response::read`
 pub response-local : (msg behind : List ℕ) (v : ℤ) (lent : List ℕ × List ℕ) (x y : Told) (n : ℕ) →
     PrefixRead msg v lent x → Accepts x n → length (take n msg ++ behind) ≤ most → PrefixRead (take n msg ++ behind) v lent y → y ≡ x
 response-local msg behind v lent x y n p a h q =
     local-reply said response-unique Api.response msg behind v _ x y (a .0) n (x .1 .0 ∷ x .1 .1 ∷ []) p (ap (λ (z : Answer). (z, x .1 .0 ∷ x .1 .1 ∷ [])) (a .1)) h q
-
--- `request::read`
-pub request-local : (msg behind : List ℕ) (v : ℤ) (lent : List ℕ) (x y : RequestReply × List ℕ) (r : List ℕ) (n : ℕ) →
-    Request.said x ≡ prefixRead Api.request v (lent ∷ []) msg → ofRequestReply (x .0) ≡ accepted r n → length (take n msg ++ behind) ≤ most →
-    Request.said y ≡ prefixRead Api.request v (lent ∷ []) (take n msg ++ behind) → y ≡ x
-request-local msg behind v lent x y r n p a h q =
-    local-reply Request.said Request.request-unique Api.request msg behind v _ x y r n (x .1 ∷ []) p (ap (λ (z : Answer). (z, x .1 ∷ [])) a) h q

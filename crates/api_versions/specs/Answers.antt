@@ -3,11 +3,8 @@ use mathlib.Core.List.{List, [], _++_, _∷_}
 use Prim.Native.Nat.{ℕ}
 use Rattle.layout.specs.Answers.{Answer, accepted, refused}
 use Rattle.primitives.specs.Answers.{ofRefusal}
-use Rattle.api_versions.specs.declared.RequestBody.{RequestBody}
-use Rattle.api_versions.specs.declared.RequestReply.{RequestReply}
 use Rattle.api_versions.specs.declared.ResponseBody.{ResponseBody}
 use Rattle.api_versions.specs.declared.ResponseReply.{ResponseReply}
-use Rattle.api_versions.specs.declared.Text.{Text}
 use Rattle.api_versions.specs.declared.Throttle.{Throttle}
 
 -- the kind, 0 for absent or unset and 2 for present, and the number
@@ -26,15 +23,3 @@ ofResponseReply (ResponseReply.Refused e) = refused (ofRefusal e)
 abbrev pub accepting : ResponseReply → ℕ
 accepting (ResponseReply.Took x n) = 1
 accepting (ResponseReply.Refused e) = 0
-
--- the kind, 0 for absent or unset and 2 for present, and start and length
-abbrev pub ofText : Text → List ℕ
-ofText Text.Absent = 0 ∷ 0 ∷ 0 ∷ []
-ofText (Text.Present a k) = 2 ∷ a ∷ k ∷ []
-
-abbrev pub ofRequest : RequestBody → List ℕ
-ofRequest x = ofText (x .name) ++ (ofText (x .version) ++ (x .tags ∷ []))
-
-abbrev pub ofRequestReply : RequestReply → Answer
-ofRequestReply (RequestReply.Took x n) = accepted (ofRequest x) n
-ofRequestReply (RequestReply.Refused e) = refused (ofRefusal e)

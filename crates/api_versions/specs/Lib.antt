@@ -4,7 +4,3 @@ pub mod Answers
 pub mod Shapes
 -- what the walks over a body say
 pub mod Walks
--- what the walk over a request says
-pub mod Requests
--- agreement, with its numbers shown
-pub mod Agreed

@@ -6,16 +6,12 @@ pub mod Fits
 pub mod Walk
 -- the items, and the loop over them
 pub mod Items
--- the answer at a version that is known
-pub mod Answer
+-- what tables that are not refused hold
+pub mod Good
 -- what the definition comes to
 pub mod Meant
 -- the answer to a whole response
 pub mod Whole
--- a request's texts and tags
-pub mod Texts
--- what the definition comes to for requests
-pub mod RequestMeant
 -- a promise determines reply and output
 pub mod Unique
 -- what was written comes back whole at its version, and is refused at the others

@@ -13,7 +13,7 @@ use Rattle.layout.specs.Tables.{Tables, all, basicOf, chosen, chunks, count, it
 use Rattle.layout.specs.Write.{basicFault, each, fault, firstOf, or, sizedFault, unless, write, writeBasic}
 use Rattle.rows.proofs.Faults.{or-none, or-unless}
 use Rattle.rows.proofs.Times.{times-many}
-use Rattle.tags_written.proofs.Meaning.{meaning, tags-clean, tags-end}
+use Rattle.tags_written.proofs.Meaning.{Cells, cells-drop, meaning, tags-clean, tags-end}
 use Rattle.writers.specs.Put.{sizeOf}
 use Rattle.layout.specs.Rows as Rows
 use Rattle.api_versions.specs.Shapes.{itemShape, tagsShape, throttleShape}
@@ -63,13 +63,6 @@ module _ (lent : List ℕ) (f : Bool) where
     where
       next : 4 + n * 4 ≡ suc n * 4
       next = omega arith
-
--- every cell is below 2^64
-abbrev pub Cells : List ℕ → Type 0
-Cells cs = (i : ℕ) → getD cs i 0 < 2 ^ 64
-
-pub cells-drop : (k : ℕ) (cs : List ℕ) → Cells cs → Cells (drop k cs)
-cells-drop k cs h i = omega (arith, getD-drop k cs i 0, h (k + i))
 
 module _ (lent : List ℕ) (l : length lent < 2 ^ 64) where
   item-fault : (f : Bool) (items tags : List ℕ) → Cells items → Cells tags → fault (itemShape f) (itemMeant lent f items tags) ≡ unless (rowHolds (take 4 items)) 11

@@ -1,4 +1,4 @@
--- The promises of the two calls determine reply and output: any two that they allow are equal.
+-- The promise of the call determines reply and output: any two that it allows are equal.
 use mathlib.Core.List.{List, [], _∷_}
 use mathlib.Core.Path.{_≡_}
 use Prim.Native.Nat.{ℕ}
@@ -8,8 +8,7 @@ use Rattle.layout.specs.Messages.ApiVersions as Api
 use Rattle.writers.specs.Put.{replied}
 use Rattle.writers.specs.declared.Written.{Written}
 use Rattle.writers.proofs.Unique.{written-unique}
-use Rattle.api_versions.specs.Answers.{ofRequest, ofResponse}
-use Rattle.api_versions.specs.declared.RequestBody.{RequestBody}
+use Rattle.api_versions.specs.Answers.{ofResponse}
 use Rattle.api_versions.specs.declared.ResponseBody.{ResponseBody}
 
 module _ (version : ℤ) (lent tags out : List ℕ) (x y : Written × List ℕ) where
@@ -17,8 +16,3 @@ module _ (version : ℤ) (lent tags out : List ℕ) (x y : Written × List ℕ) 
       replied (x .0) (x .1) ≡ writeAnswer Api.response version lent (ofResponse body ∷ items ∷ tags ∷ []) out →
       replied (y .0) (y .1) ≡ writeAnswer Api.response version lent (ofResponse body ∷ items ∷ tags ∷ []) out → x ≡ y
   response-unique body items h g = written-unique (writeAnswer Api.response version lent (ofResponse body ∷ items ∷ tags ∷ []) out) x y h g
-
-  pub request-unique : (body : RequestBody) →
-      replied (x .0) (x .1) ≡ writeAnswer Api.request version lent (ofRequest body ∷ tags ∷ []) out →
-      replied (y .0) (y .1) ≡ writeAnswer Api.request version lent (ofRequest body ∷ tags ∷ []) out → x ≡ y
-  request-unique body h g = written-unique (writeAnswer Api.request version lent (ofRequest body ∷ tags ∷ []) out) x y h g

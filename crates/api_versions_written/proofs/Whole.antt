@@ -21,7 +21,7 @@ use Rattle.rows.proofs.Chunks.{rows-many}
 use Rattle.rows.proofs.Faults.{or-unless}
 use Rattle.rows.proofs.Judged.{all-eq}
 use Rattle.tags_written.specs.Tags.{allRanged, ranged}
-use Rattle.tags_written.proofs.Meaning.{tag-good}
+use Rattle.tags_written.proofs.Meaning.{Cells, cells-drop, tag-good}
 use Rattle.writers.specs.Put.{sizeOf}
 use Rattle.api_versions.specs.Answers.{ofThrottle}
 use Rattle.api_versions.specs.declared.Throttle.{Throttle}
@@ -31,8 +31,8 @@ use Rattle.api_versions.specs.Shapes.{itemShape, responseShape, tagsShape, thro
 use Rattle.api_versions_written.specs.Responses.{arrayBytes, endBytes, formOf, itemsBytes, ownFrom, responseBytes, responseFault, responseGood, responseHolds, restBytes, rowHolds, tagsPart, throttleHolds, throttleOf, told, toldGood}
 use Rattle.primitives.specs.Answers.{versionOf}
 use Rattle.primitives.proofs.Versions.{known}
-use Rattle.api_versions_written.proofs.Answer.{good-items, good-tags}
-use Rattle.api_versions_written.proofs.Meant.{Cells, cells-drop, cells-told, cellsOf, end-bytes, end-fault, end-value, endMeant, front-bytes, front-fault}
+use Rattle.api_versions_written.proofs.Good.{good-items, good-tags}
+use Rattle.api_versions_written.proofs.Meant.{cells-told, cellsOf, end-bytes, end-fault, end-value, endMeant, front-bytes, front-fault}
 
 -- ---- 13, at every version
 

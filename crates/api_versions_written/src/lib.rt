@@ -1,5 +1,4 @@
-// ApiVersions written: each call judges the version, the tables and the values first, then measures the body, and writes it last.
+// The ApiVersions response, written: the call judges the version, the tables and the values first, then measures the body, and writes it last.
 
 mod judge;
-pub mod request;
 pub mod response;

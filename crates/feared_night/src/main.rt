@@ -7,7 +7,6 @@ ghost use Rattle.api_versions.specs.Answers.{accepting};
 use api_versions::ResponseBody;
 use api_versions::ResponseReply;
 use api_versions::Throttle;
-use api_versions::agreement;
 use api_versions::response;
 use libc::STDOUT_FILENO;
 use primitives::Refusal;

@@ -168,6 +168,12 @@ prefix-local m v room s t r n after e h = go (read-inv m v s room false r n afte
     go : Read m v s room false r n after → readAnswer false m v room (take n s ++ t) ≡ (accepted r n, after)
     go d = read-answer m v (take n s ++ t) room false (d .st) n (seen-local m v s (d .st) n t (d .is-seen) h) (d .has-room) ∙ (λ i. (accepted (d .row-is i) n, d .after-is i))
 
+-- the same of replies that say answers, each answer in one way: with other bytes behind the used ones the reply and the tables are the same
+module _ {R : Type 0} (say : R → Answer × Tables) (only : (o : Answer × Tables) (x y : R) → say x ≡ o → say y ≡ o → x ≡ y) (m : Message) where
+  pub local-reply : (msg behind : List ℕ) (v : ℤ) (lent : Tables) (x y : R) (r : List ℕ) (n : ℕ) (after : Tables) →
+      say x ≡ prefixRead m v lent msg → say x ≡ (accepted r n, after) → length (take n msg ++ behind) ≤ most → say y ≡ prefixRead m v lent (take n msg ++ behind) → y ≡ x
+  local-reply msg behind v lent x y r n after p a h q = only _ y x q (a ∙ sym (prefix-local m v lent msg behind r n after (sym p ∙ a) h))
+
 -- ---- what the tables hold
 
 module _ (m : Message) (h : proper m ≡ true) where

@@ -17,7 +17,7 @@ use Rattle.layout.proofs.Sums.{sum-zero}
 use Rattle.layout.proofs.Tests.{of-eq}
 use Rattle.rows.proofs.Chunks.{rows-many}
 use Rattle.rows.proofs.Judged.{all-eq}
-use Rattle.tags_written.proofs.Meaning.{meaning, tag, tag-good, tags-bytes, tags-clean, tags-value}
+use Rattle.tags_written.proofs.Meaning.{Cells, meaning, tag, tag-good, tags-bytes, tags-clean, tags-value}
 use Rattle.tags_written.specs.Tags.{allRanged, ranged, tagsBytes, tagsGood}
 
 abbrev tags : Shape
@@ -68,14 +68,14 @@ module _ (lent : List ℕ) (c : ℕ) (table : List ℕ) (h : count c ≡ length 
   unfolding body write
   is-body = rw value (append-nil _ ∙ tags-bytes lent table)
 
-  is-clean : ((i : ℕ) → getD table i 0 < 2 ^ 64) → length table < 2 ^ 64 → length lent < 2 ^ 64 → fault tags (meant lent lentRows tags) ≡ 0
+  is-clean : Cells table → length table < 2 ^ 64 → length lent < 2 ^ 64 → fault tags (meant lent lentRows tags) ≡ 0
   unfolding fault or rowsOf
   is-clean f t l = rw (value, tags-clean lent (length table / 3) table (omega arith) f l)
 
 -- ---- the answer
 
 module _ (lent table : List ℕ) (c : ℕ) (out : List ℕ) where
-  pub tags-alone : ((i : ℕ) → getD table i 0 < 2 ^ 64) → length table < 2 ^ 64 → length lent < 2 ^ 64 →
+  pub tags-alone : Cells table → length table < 2 ^ 64 → length lent < 2 ^ 64 →
       writeAnswer tagsAlone (pos 0) lent ((c ∷ []) ∷ table ∷ []) out
       ≡ stored out (cond (tagsGood (length lent) c table) (limited (length (tagsBytes lent table)) (ok (tagsBytes lent table) (length (tagsBytes lent table)))) (bad (because 13 0)))
   unfolding writeAnswer made

@@ -25,6 +25,13 @@ pub tag-good : (size : ℕ) (r : List ℕ) → (goodSpan size false (drop 1 r) &
 unfolding goodSpan ranged
 tag-good size r = and-true _ ∙ ap₂ (inside size) (getD-drop 1 r 0 0) (getD-drop 1 r 1 0)
 
+-- every cell is below 2^64
+abbrev pub Cells : List ℕ → Type 0
+Cells cs = (i : ℕ) → getD cs i 0 < 2 ^ 64
+
+pub cells-drop : (k : ℕ) (cs : List ℕ) → Cells cs → Cells (drop k cs)
+cells-drop k cs h i = omega (arith, getD-drop k cs i 0, h (k + i))
+
 module _ (lent : List ℕ) where
   -- the value of a row
   abbrev pub meaning : List ℕ → Value (List ℕ) tag
@@ -89,12 +96,12 @@ module _ (lent : List ℕ) where
   unfolding fault basicFault sizedFault unless or slice
   no-fault-of r h i = rw (lt-true (getD r 0 0) (2 ^ 64) h, lt-true (length (take (getD r 2 0) (drop (getD r 1 0) lent))) (2 ^ 64) (omega (arith, length-take (getD r 2 0) (drop (getD r 1 0) lent), length-drop (getD r 1 0) lent)))
 
-  no-faults : (n : ℕ) (cs : List ℕ) → ((i : ℕ) → getD cs i 0 < 2 ^ 64) → length lent < 2 ^ 64 → firstOf (fault tag) (map meaning (chunks n 3 cs)) ≡ 0
+  no-faults : (n : ℕ) (cs : List ℕ) → Cells cs → length lent < 2 ^ 64 → firstOf (fault tag) (map meaning (chunks n 3 cs)) ≡ 0
   unfolding firstOf or chunks
   no-faults zero cs h i = refl
   no-faults (suc n) cs h i =
-      rw (no-fault-of (take 3 cs) (omega (arith, getD-take 3 cs 0 0 (lit< tt), h 0)) i) (no-faults n (drop 3 cs) (λ j. omega (arith, getD-drop 3 cs j 0, h (3 + j))) i)
+      rw (no-fault-of (take 3 cs) (omega (arith, getD-take 3 cs 0 0 (lit< tt), h 0)) i) (no-faults n (drop 3 cs) (cells-drop 3 cs h) i)
 
-  pub tags-clean : (n : ℕ) (cs : List ℕ) → n < 2 ^ 64 → ((i : ℕ) → getD cs i 0 < 2 ^ 64) → length lent < 2 ^ 64 → sizedFault false plain (λ xs. firstOf (fault tag) xs) (map meaning (chunks n 3 cs)) ≡ 0
+  pub tags-clean : (n : ℕ) (cs : List ℕ) → n < 2 ^ 64 → Cells cs → length lent < 2 ^ 64 → sizedFault false plain (λ xs. firstOf (fault tag) xs) (map meaning (chunks n 3 cs)) ≡ 0
   unfolding sizedFault or unless
   tags-clean n cs k h i = rw (length-map (chunks n 3 cs) meaning, chunks-many n 3 cs, lt-true n (2 ^ 64) k) (no-faults n cs h i)

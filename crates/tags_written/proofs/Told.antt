@@ -9,8 +9,9 @@ use Rattle.layout.specs.Answers.{Answer, refused, tagsAlone, writeAlone, writeA
 use Rattle.layout.specs.Reading.{Refusal, because}
 use Rattle.tags_written.specs.Tags.{tagsBytes, tagsGood}
 use Rattle.tags_written.proofs.Alone.{tags-alone}
+use Rattle.tags_written.proofs.Meaning.{Cells}
 
-module _ (lent table : List ℕ) (c : ℕ) (out : List ℕ) (f : (i : ℕ) → getD table i 0 < 2 ^ 64) (t : length table < 2 ^ 64) (l : length lent < 2 ^ 64) where
+module _ (lent table : List ℕ) (c : ℕ) (out : List ℕ) (f : Cells table) (t : length table < 2 ^ 64) (l : length lent < 2 ^ 64) where
   pub told-bad : (e : Refusal) → e ≡ because 13 0 → tagsGood (length lent) c table ≡ false → _≡_ {A = Answer × List ℕ} (refused e, out) (writeAnswer tagsAlone (pos 0) lent ((c ∷ []) ∷ table ∷ []) out)
   told-bad e i g = (λ t. (refused (i t), out)) ∙ sym (tags-alone lent table c out f t l ∙ rw g)
 

@@ -12,6 +12,8 @@ pub mod Carried
 pub mod Answered
 -- a length, a count or what stands behind a length written by a call of its own
 pub mod Judged
+-- a body: a refusal, or its bytes
+pub mod Answer
 -- one walk, run twice: measured, and then written
 pub mod Measured
 -- a promise determines the reply and the output

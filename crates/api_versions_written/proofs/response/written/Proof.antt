@@ -1,6 +1,7 @@
 -- A number refuses; and else the walk's bytes are measured, judged and written.
 use Rattle.writers.proofs.Measured.{measured-long, measured-short, measured-written}
-use Rattle.api_versions_written.proofs.Answer.{answered-alone, fault-good, good-tags, refused-alone}
+use Rattle.writers.proofs.Answer.{answered-alone, refused-alone}
+use Rattle.api_versions_written.proofs.Good.{fault-good, good-tags}
 use borrow.Author.Needs.{needs}
 use Rattle.api_versions_written.proofs.response.written.Statement.{statement}
 use Rattle.api_versions_written.proofs.response.written.Tie as tie

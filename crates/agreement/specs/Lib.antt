@@ -1,0 +1,2 @@
+-- agreement, with its numbers shown
+pub mod Agreed

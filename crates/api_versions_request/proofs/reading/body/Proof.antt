@@ -1,0 +1,20 @@
+-- Versions below 3 have no field, and 3 is the only one left.
+use Rattle.api_versions_request.proofs.Rows.{as-flexible, nothing-read}
+use borrow.Author.Needs.{needs}
+use Rattle.api_versions_request.proofs.reading.body.Statement.{statement}
+use Rattle.api_versions_request.proofs.reading.body.Tie as tie
+
+returns : tie.Need-returns
+returns c = nothing-read _ _ _ (c .if1 .taken)
+
+flexible-requires : tie.Need-flexible-requires
+flexible-requires c κs = search needs
+
+same-length : tie.Need-same-length
+same-length c = search needs
+
+returns-2 : tie.Need-returns-2
+returns-2 c = as-flexible _ _ _ (c .before .before .before .before .if1 .left) (search needs) _ (c .before .before .flexible .ensures)
+
+pub body-spec : {M : Type 1} → statement M
+body-spec = tie.close (tie.spec returns flexible-requires same-length returns-2)

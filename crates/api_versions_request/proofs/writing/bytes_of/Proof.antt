@@ -1,0 +1,27 @@
+-- An unset text is the empty part, and every other is the part that it names.
+use Rattle.api_versions_request.proofs.Texts.{bytes-absent, bytes-present}
+use borrow.Author.Needs.{needs}
+use Rattle.api_versions_request.proofs.writing.bytes_of.Statement.{statement}
+use Rattle.api_versions_request.proofs.writing.bytes_of.Tie as tie
+
+enum-told : tie.Need-enum-told
+enum-told c = search needs
+
+part-requires : tie.Need-part-requires
+part-requires c κs = search needs
+
+enum-known-t : tie.Need-enum-known-t
+enum-known-t c = search needs
+
+part-requires-2 : tie.Need-part-requires-2
+part-requires-2 c κs = search needs
+
+returns : tie.Need-returns
+returns c = bytes-absent _ (c .before .enum-told .given .1) _ _ (c .part .ensures)
+
+returns-2 : tie.Need-returns-2
+returns-2 c = bytes-present _ (c .before .before .t .given .1) _ _ (c .part2 .ensures)
+
+pub bytes-of-spec : {M : Type 1} → statement M
+bytes-of-spec =
+    tie.close (tie.spec enum-told part-requires enum-known-t part-requires-2 returns returns-2)

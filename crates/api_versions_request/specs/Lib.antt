@@ -1,0 +1,6 @@
+-- what the answers of the calls say in the definition's words
+pub mod Answers
+-- what the walk over a request says
+pub mod Walks
+-- a request to write, field by field
+pub mod Parts
