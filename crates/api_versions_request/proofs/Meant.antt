@@ -23,8 +23,8 @@ use Rattle.layout.proofs.Proper.{both}
 use Rattle.rows.proofs.Judged.{all-eq}
 use Rattle.tags_written.specs.Tags.{allRanged, ranged, tagsBytes, tagsGood}
 use Rattle.tags_written.proofs.Meaning.{meaning, tag, tag-good, tags-clean, tags-end, tags-value}
-use Rattle.writers.specs.declared.Form.{Form}
-use Rattle.writers.specs.Put.{behindLength, sizeOf}
+use Rattle.put.specs.declared.Form.{Form}
+use Rattle.put.specs.Put.{behindLength, sizeOf}
 use Rattle.api_versions_request.specs.Answers.{ofText}
 use Rattle.api_versions_request.specs.declared.Text.{Text}
 use Rattle.api_versions_request.specs.Parts.{requestBytes, requestFault, requestGood, requestHolds, requestShape, textGood, textOf, textsBytes}

@@ -13,9 +13,9 @@ use Rattle.rows.specs.Step.{Capped, cap}
 use Rattle.rows.proofs.Capped.{capped, capped-behind}
 use Rattle.rows.proofs.Step.{step-nothing}
 use Rattle.tags_written.specs.Tags.{tagsBytes, tagsGood}
-use Rattle.writers.specs.declared.Form.{Form}
-use Rattle.writers.specs.Put.{Put, behindLength, sizeOf}
-use Rattle.writers.proofs.Stored.{put-step}
+use Rattle.put.specs.declared.Form.{Form}
+use Rattle.put.specs.Put.{Put, behindLength, sizeOf}
+use Rattle.put.proofs.Stored.{put-step}
 use Rattle.api_versions_request.specs.declared.Text.{Text}
 use Rattle.api_versions_request.specs.Parts.{requestBytes, requestFault, requestGood, requestHolds, textGood, textOf, textsBytes}
 

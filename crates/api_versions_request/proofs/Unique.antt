@@ -7,7 +7,7 @@ use lib.ListN.{getD}
 use Rattle.layout.specs.Tables.{Tables}
 use Rattle.layout.specs.Answers.{Answer, accepted, refused, writeAnswer}
 use Rattle.layout.specs.Messages.ApiVersions as Api
-use Rattle.writers.specs.Put.{replied}
+use Rattle.writers.specs.Answers.{replied}
 use Rattle.writers.specs.declared.Written.{Written}
 use Rattle.writers.proofs.Unique.{written-unique}
 use Rattle.primitives.proofs.Unique.{refusalOf, unique}

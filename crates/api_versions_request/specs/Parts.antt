@@ -10,8 +10,8 @@ use Rattle.layout.specs.Tables.{inside, slice}
 use Rattle.layout.specs.Utf8.{utf8}
 use Rattle.layout.specs.Write.{unless}
 use Rattle.tags_written.specs.Tags.{tagsBytes, tagsGood}
-use Rattle.writers.specs.declared.Form.{Form}
-use Rattle.writers.specs.Put.{behindLength, sizeOf}
+use Rattle.put.specs.declared.Form.{Form}
+use Rattle.put.specs.Put.{behindLength, sizeOf}
 
 abbrev pub requestShape : Bool → Shape
 requestShape true = field (optional (0 ∷ 0 ∷ []) (text (compact never))) (field (optional (0 ∷ 0 ∷ []) (text (compact never))) (array plain 1 (field natural (field (blob plain) end)) end))

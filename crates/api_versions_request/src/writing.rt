@@ -5,7 +5,7 @@ ghost use lib.ListN.{length};
 ghost use Rattle.layout.specs.Answers.{writeAlone, writeAnswer};
 ghost use Rattle.layout.specs.Messages.ApiVersions as Api;
 ghost use Rattle.rows.specs.Step.{Capped};
-ghost use Rattle.writers.specs.Put.{replied};
+ghost use Rattle.writers.specs.Answers.{replied};
 ghost use Rattle.api_versions_request.specs.Answers.{ofRequest};
 ghost use Rattle.api_versions_request.specs.Parts.{requestBytes, requestFault, requestGood, requestHolds, textGood, textOf, textsBytes};
 use crate::RequestBody;
@@ -18,12 +18,11 @@ use primitives::TOO_LONG;
 use primitives::at;
 use primitives::no_room;
 use primitives::version_of;
+use put::Form;
 use tags_written::is_inside;
 use tags_written::part;
 use tags_written::tag_buffer;
-use writers::Form;
 use writers::Written;
-use writers::put;
 
 // The bytes of a text: none where it is unset.
 fn bytes_of(lent: &[u8], t: Text) -> &[u8]

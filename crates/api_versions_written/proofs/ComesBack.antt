@@ -14,7 +14,7 @@ use Rattle.layout.specs.Answers.{accepted, laid, meant, needed, refused, wholeR
 use Rattle.layout.specs.Messages.ApiVersions as Api
 use Rattle.layout.proofs.Calls.{read-answer, shapeAt}
 use Rattle.layout.proofs.Demand3.{era, written-once}
-use Rattle.writers.specs.Put.{replied}
+use Rattle.writers.specs.Answers.{replied}
 use Rattle.writers.specs.declared.Written.{Written}
 use Rattle.api_versions.specs.Answers.{ofResponse}
 use Rattle.api_versions.specs.declared.ResponseBody.{ResponseBody}

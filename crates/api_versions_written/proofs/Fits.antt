@@ -10,7 +10,7 @@ use Rattle.layout.specs.Primitives.{holds, limit, w16}
 use Rattle.layout.specs.Tables.{all, rowsOf}
 use Rattle.layout.specs.Write.{unless}
 use Rattle.rows.proofs.Chunks.{row-cell}
-use Rattle.writers.specs.Put.{within}
+use Rattle.writers.specs.Answers.{within}
 use Rattle.layout.specs.Rows as Rows
 use Rattle.api_versions_written.specs.Responses.{responseFault, responseGood, responseHolds, rowHolds, throttleHolds}
 

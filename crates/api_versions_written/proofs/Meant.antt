@@ -14,7 +14,7 @@ use Rattle.layout.specs.Write.{basicFault, each, fault, firstOf, or, sizedFault
 use Rattle.rows.proofs.Faults.{or-none, or-unless}
 use Rattle.rows.proofs.Times.{times-many}
 use Rattle.tags_written.proofs.Meaning.{Cells, cells-drop, meaning, tags-clean, tags-end}
-use Rattle.writers.specs.Put.{sizeOf}
+use Rattle.put.specs.Put.{sizeOf}
 use Rattle.layout.specs.Rows as Rows
 use Rattle.api_versions.specs.Shapes.{itemShape, tagsShape, throttleShape}
 use Rattle.api_versions_written.specs.Responses.{endBytes, formOf, rowHolds, tagCells, tagsPart, throttleBytes, throttleHolds, told}

@@ -5,7 +5,7 @@ use Prim.Native.Nat.{ℕ}
 use lib.IntN.{ℤ}
 use Rattle.layout.specs.Answers.{writeAnswer}
 use Rattle.layout.specs.Messages.ApiVersions as Api
-use Rattle.writers.specs.Put.{replied}
+use Rattle.writers.specs.Answers.{replied}
 use Rattle.writers.specs.declared.Written.{Written}
 use Rattle.writers.proofs.Unique.{written-unique}
 use Rattle.api_versions.specs.Answers.{ofResponse}

@@ -13,9 +13,9 @@ use Rattle.rows.specs.Step.{Capped, cap}
 use Rattle.rows.proofs.Capped.{capped, capped-as, capped-behind}
 use Rattle.rows.proofs.Step.{step-nothing}
 use Rattle.tags_written.specs.Tags.{tagsBytes}
-use Rattle.writers.specs.Put.{Put, sizeOf}
-use Rattle.writers.specs.declared.Form.{Form}
-use Rattle.writers.proofs.Stored.{put-step}
+use Rattle.put.specs.Put.{Put, sizeOf}
+use Rattle.put.specs.declared.Form.{Form}
+use Rattle.put.proofs.Stored.{put-step}
 use Rattle.api_versions_written.specs.Responses.{arrayBytes, endBytes, formOf, itemBytes, itemsBytes, keyBytes, ownFrom, responseBytes, restBytes, tagCells, tagsPart, throttleBytes}
 
 -- ---- what a version may lack

@@ -22,7 +22,7 @@ use Rattle.rows.proofs.Faults.{or-unless}
 use Rattle.rows.proofs.Judged.{all-eq}
 use Rattle.tags_written.specs.Tags.{allRanged, ranged}
 use Rattle.tags_written.proofs.Meaning.{Cells, cells-drop, tag-good}
-use Rattle.writers.specs.Put.{sizeOf}
+use Rattle.put.specs.Put.{sizeOf}
 use Rattle.api_versions.specs.Answers.{ofThrottle}
 use Rattle.api_versions.specs.declared.Throttle.{Throttle}
 use Rattle.layout.specs.Rows as Rows

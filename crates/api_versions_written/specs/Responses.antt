@@ -12,8 +12,8 @@ use Rattle.layout.specs.Rows as Rows
 use Rattle.layout.specs.Tables.{all, count, goodCount, rowsOf, sum, times, valueOf}
 use Rattle.layout.specs.Write.{each, unless, write}
 use Rattle.tags_written.specs.Tags.{allRanged, tagsBytes}
-use Rattle.writers.specs.declared.Form.{Form}
-use Rattle.writers.specs.Put.{sizeOf}
+use Rattle.put.specs.declared.Form.{Form}
+use Rattle.put.specs.Put.{sizeOf}
 
 -- ---- the bytes
 

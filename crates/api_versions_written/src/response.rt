@@ -9,7 +9,7 @@ ghost use Rattle.layout.specs.Messages.ApiVersions as Api;
 ghost use Rattle.layout.specs.Primitives.{bytes};
 ghost use Rattle.layout.specs.Tables.{all, count, rowsOf, sum};
 ghost use Rattle.rows.specs.Step.{Capped};
-ghost use Rattle.writers.specs.Put.{replied};
+ghost use Rattle.writers.specs.Answers.{replied};
 ghost use Rattle.api_versions.specs.Answers.{ofResponse};
 ghost use Rattle.api_versions_written.specs.Responses.{arrayBytes, endBytes, formOf, itemBytes, itemsBytes, keyBytes, responseBytes, responseFault, restBytes, tagCells, tagsPart, throttleBytes, throttleOf, told};
 use crate::judge::refusal;
@@ -21,11 +21,10 @@ use primitives::TOO_LONG;
 use primitives::at;
 use primitives::no_room;
 use primitives::version_of;
+use put::Form;
 use tags_written::rows_told;
 use tags_written::tag_buffer;
-use writers::Form;
 use writers::Written;
-use writers::put;
 
 // ---- the walk
 

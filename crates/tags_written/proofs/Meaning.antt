@@ -13,7 +13,7 @@ use Rattle.layout.specs.Tables.{Tables, basicOf, chunks, goodSpan, inside, pop,
 use Rattle.layout.specs.Write.{basicFault, each, fault, firstOf, or, sizedFault, unless, write, writeBasic}
 use Rattle.layout.proofs.Tests.{lt-true}
 use Rattle.rows.proofs.Chunks.{chunks-many, rows-many}
-use Rattle.writers.specs.Put.{behindLength}
+use Rattle.put.specs.Put.{behindLength}
 use Rattle.tags_written.specs.Tags.{ranged, rowBytes, rowsBytes, tagBytes, tagsBytes}
 
 -- a row of tags, where the version has them

@@ -20,8 +20,8 @@ use Rattle.rows.specs.Step.{Capped, Step, cap}
 use Rattle.rows.proofs.Capped.{capped, capped-all, capped-as, capped-behind, capped-next, capped-none}
 use Rattle.rows.proofs.Chunks.{row-cell, rows-many}
 use Rattle.rows.proofs.Step.{step-behind}
-use Rattle.writers.specs.Put.{Put, behindLength}
-use Rattle.writers.proofs.Stored.{put-step}
+use Rattle.put.specs.Put.{Put, behindLength}
+use Rattle.put.proofs.Stored.{put-step}
 use Rattle.tags_written.specs.Tags.{allRanged, ranged, rowBytes, rowsBytes, tagBytes, tagsBytes, tagsGood}
 
 -- ---- a range

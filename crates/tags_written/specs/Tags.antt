@@ -7,7 +7,7 @@ use lib.ListN.{getD, length}
 use Rattle.layout.specs.Primitives.{plain, unsignedBytes}
 use Rattle.layout.specs.Tables.{all, count, goodCount, inside, rowsOf, slice}
 use Rattle.layout.specs.Write.{each}
-use Rattle.writers.specs.Put.{behindLength}
+use Rattle.put.specs.Put.{behindLength}
 
 -- a tag, and n bytes of the lent ones from `start` on behind their length
 unfoldable pub tagBytes : List ℕ → ℕ → ℕ → ℕ → List ℕ

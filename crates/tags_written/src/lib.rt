@@ -9,7 +9,8 @@ ghost use Rattle.layout.specs.Answers.{tagsAlone, writeAnswer};
 ghost use Rattle.layout.specs.Primitives.{plain};
 ghost use Rattle.layout.specs.Tables.{count, inside, rowsOf, slice};
 ghost use Rattle.rows.specs.Step.{Capped, Step};
-ghost use Rattle.writers.specs.Put.{behindLength, replied};
+ghost use Rattle.put.specs.Put.{behindLength};
+ghost use Rattle.writers.specs.Answers.{replied};
 ghost use Rattle.tags_written.specs.Tags.{allRanged, rowBytes, rowsBytes, tagBytes, tagsBytes, tagsGood};
 use primitives::BAD_TABLES;
 use primitives::MOST;
@@ -17,7 +18,6 @@ use primitives::TOO_LONG;
 use primitives::at;
 use primitives::no_room;
 use writers::Written;
-use writers::put;
 
 // ---- 13
 

@@ -15,9 +15,10 @@ use Rattle.layout.specs.Primitives.{Width, bits, bytes, cellOf, flagBytes, hold
 use Rattle.layout.specs.Reading.{Refusal, because}
 use Rattle.layout.specs.Write.{unless}
 use Rattle.layout.proofs.Tests.{le-false, le-true, lt-false, lt-true}
-use Rattle.writers.specs.Put.{ofWritten}
+use Rattle.writers.specs.Answers.{ofWritten}
 use Rattle.primitives.specs.Answers.{noRoom}
-use Rattle.writers.specs.Put.{Put, replied, told, within}
+use Rattle.put.specs.Put.{Put}
+use Rattle.writers.specs.Answers.{replied, told, within}
 use Rattle.writers.specs.declared.Written.{Written}
 
 pub told-all : (room n : ℕ) → n ≤ room → accepted [] n ≡ told room n

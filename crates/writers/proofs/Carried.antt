@@ -13,7 +13,7 @@ use mir.Val.{Fits, SFits, ofZ, toZ}
 use borrow.Author.Tests.{le-ltb}
 use Rattle.layout.specs.Primitives.{cellOf, zigzag}
 use Rattle.layout.proofs.Tests.{le-false, le-true, lt-false, lt-true}
-use Rattle.writers.specs.Put.{within}
+use Rattle.writers.specs.Answers.{within}
 
 -- x is not negative
 pub record Plus (x : ℤ) : Type 0 where

@@ -12,9 +12,10 @@ use Rattle.layout.specs.Reading.{Refusal, because}
 use Rattle.layout.specs.Write.{or, sizedFault, unless}
 use Rattle.layout.proofs.Back.{length-bytes}
 use Rattle.layout.proofs.Tests.{le-false, lt-false, lt-true}
-use Rattle.writers.specs.Put.{behindLength, countBytes, countFault, lengthFault, nullOr}
+use Rattle.put.specs.Put.{behindLength}
+use Rattle.writers.specs.Answers.{countBytes, countFault, lengthFault, nullOr}
 use Rattle.writers.proofs.Answered.{no-fault, too-wide}
-use Rattle.writers.proofs.Shortest.{unsigned-length}
+use Rattle.put.proofs.Shortest.{unsigned-length}
 
 -- 2
 pub too-long : (bs d : List ℕ) (e : Refusal) → e ≡ because 2 0 → 1048576 < length bs → _≡_ {A = Answer × List ℕ} (refused e, d) (writeAlone 0 bs d)

@@ -1,11 +1,5 @@
 -- Laws that the functions' proofs cite, one over each thing that varies.
 
--- what a writer leaves, and the lowest bytes of a number
-pub mod Stored
--- the shortest form of an unsigned varint
-pub mod Shortest
--- bytes copied, and what stands behind its length
-pub mod Sized
 -- the cell of a number, its zigzag, and the width that holds it
 pub mod Carried
 -- a primitive written by a call of its own

@@ -4,7 +4,7 @@ use mathlib.Core.Path.{_≡_, refl}
 use Prim.Native.Nat.{ℕ}
 use Rattle.layout.specs.Answers.{Answer, accepted, refused}
 use Rattle.primitives.proofs.Unique.{refusalOf, unique}
-use Rattle.writers.specs.Put.{replied}
+use Rattle.writers.specs.Answers.{replied}
 use Rattle.writers.specs.declared.Written.{Written}
 
 abbrev writtenOf : Answer → Written

@@ -1,1 +1,2 @@
-pub mod Put
+-- what the answers of the calls say in the definition's words
+pub mod Answers

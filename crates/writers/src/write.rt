@@ -8,16 +8,16 @@ ghost use Rattle.layout.specs.Primitives.{compact, empty, fixed, kept, never, w
 ghost use Rattle.layout.specs.Rows.{blob, text};
 ghost use Rattle.layout.specs.Write.{basicFault, unless, writeBasic};
 ghost use Rattle.layout.specs.Answers.{writeAlone};
-ghost use Rattle.writers.specs.Put.{behindLength, countBytes, countFault, lengthFault, nullOr, ofWritten, replied, sizeOf, told, within};
-use crate::Form;
+ghost use Rattle.put.specs.Put.{behindLength, sizeOf};
+ghost use Rattle.writers.specs.Answers.{countBytes, countFault, lengthFault, nullOr, ofWritten, replied, told, within};
 use crate::Written;
-use crate::put;
 use primitives::MOST;
 use primitives::NOT_TEXT;
 use primitives::TOO_LONG;
 use primitives::TOO_WIDE;
 use primitives::at;
 use primitives::no_room;
+use put::Form;
 
 // The cell of a signed number: its 64 bits.
 pub fn cell(value: i64) -> u64

@@ -1,6 +1,6 @@
 use lib.ListN.{length}
 use native.Mathlib.Omega.{arith}
-use Rattle.writers.proofs.Shortest.{unsigned-length}
+use Rattle.put.proofs.Shortest.{unsigned-length}
 use Rattle.tags_written.proofs.Walk.{data-put}
 use borrow.Author.Needs.{needs}
 use Rattle.tags_written.proofs.put_data.Statement.{statement}

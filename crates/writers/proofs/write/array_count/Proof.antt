@@ -1,5 +1,5 @@
 use Rattle.layout.specs.Primitives.{lengthBytes, nullBytes}
-use Rattle.writers.specs.Put.{countBytes, countFault}
+use Rattle.writers.specs.Answers.{countBytes, countFault}
 use borrow.Author.Needs.{needs}
 use Rattle.writers.proofs.write.array_count.Statement.{statement}
 use Rattle.writers.proofs.write.array_count.Tie as tie

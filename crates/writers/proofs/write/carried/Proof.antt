@@ -1,9 +1,9 @@
 use native.Mathlib.Omega.{arith}
 use lib.ListN.{length}
-use Rattle.writers.specs.Put.{sizeOf}
+use Rattle.put.specs.Put.{sizeOf}
 use Rattle.writers.proofs.Answered.{answered}
 use Rattle.writers.proofs.Judged.{behind-length, too-long}
-use Rattle.writers.proofs.Sized.{length-small}
+use Rattle.put.proofs.Lengths.{length-small}
 use borrow.Author.Needs.{needs}
 use Rattle.writers.proofs.write.carried.Statement.{statement}
 use Rattle.writers.proofs.write.carried.Tie as tie

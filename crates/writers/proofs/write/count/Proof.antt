@@ -1,8 +1,8 @@
 use native.Mathlib.Omega.{arith}
-use Rattle.writers.specs.Put.{sizeOf}
+use Rattle.put.specs.Put.{sizeOf}
 use Rattle.writers.proofs.Answered.{answered}
 use Rattle.writers.proofs.Judged.{count-good, count-null, count-wide}
-use Rattle.writers.proofs.Sized.{length-small}
+use Rattle.put.proofs.Lengths.{length-small}
 use borrow.Author.Needs.{needs}
 use Rattle.writers.proofs.write.count.Statement.{statement}
 use Rattle.writers.proofs.write.count.Tie as tie

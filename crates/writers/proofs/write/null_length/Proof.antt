@@ -1,5 +1,5 @@
 use native.Mathlib.Omega.{arith}
-use Rattle.writers.specs.Put.{sizeOf}
+use Rattle.put.specs.Put.{sizeOf}
 use Rattle.writers.proofs.Answered.{answered}
 use Rattle.writers.proofs.Judged.{null-small}
 use borrow.Author.Needs.{needs}

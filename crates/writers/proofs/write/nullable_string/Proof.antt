@@ -3,7 +3,8 @@ use mathlib.Core.Path.{ap}
 use Rattle.layout.specs.Primitives.{fixed, kept, lengthBytes, nullBytes, w16}
 use Rattle.layout.specs.Utf8.{utf8}
 use Rattle.layout.specs.Write.{basicFault, unless, writeBasic}
-use Rattle.writers.specs.Put.{behindLength, lengthFault}
+use Rattle.put.specs.Put.{behindLength}
+use Rattle.writers.specs.Answers.{lengthFault}
 use Rattle.writers.proofs.Judged.{nullable-written}
 use borrow.Author.Needs.{needs}
 use Rattle.writers.proofs.write.nullable_string.Statement.{statement}

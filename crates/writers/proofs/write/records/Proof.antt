@@ -1,7 +1,8 @@
 use mathlib.Core.Path.{refl}
 use Rattle.layout.specs.Primitives.{empty, fixed, lengthBytes, w32}
 use Rattle.layout.specs.Write.{basicFault, unless, writeBasic}
-use Rattle.writers.specs.Put.{behindLength, lengthFault}
+use Rattle.put.specs.Put.{behindLength}
+use Rattle.writers.specs.Answers.{lengthFault}
 use Rattle.writers.proofs.Judged.{field-written}
 use borrow.Author.Needs.{needs}
 use Rattle.writers.proofs.write.records.Statement.{statement}

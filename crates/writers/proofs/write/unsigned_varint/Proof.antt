@@ -1,6 +1,6 @@
 use native.Mathlib.Omega.{arith}
 use Rattle.writers.proofs.Answered.{answered}
-use Rattle.writers.proofs.Shortest.{unsigned-length}
+use Rattle.put.proofs.Shortest.{unsigned-length}
 use borrow.Author.Needs.{needs}
 use Rattle.writers.proofs.write.unsigned_varint.Statement.{statement}
 use Rattle.writers.proofs.write.unsigned_varint.Tie as tie

@@ -1,0 +1,6 @@
+-- what a writer leaves, and the lowest bytes of a number
+pub mod Stored
+-- the shortest form of an unsigned varint
+pub mod Shortest
+-- bytes copied, and what stands behind its length
+pub mod Lengths

@@ -1,0 +1,55 @@
+use mathlib.Core.Path.{sym}
+use borrow.Author.Needs.{needs}
+use Rattle.layout.proofs.Back.{length-bytes}
+use Rattle.put.proofs.Stored.{Down, down-again, down-end, down-start, put-none}
+use Rattle.put.proofs.lowest.Statement.{statement}
+use Rattle.put.proofs.lowest.Tie as tie
+
+abbrev Inv-loop : tie.InvT-loop
+Inv-loop out₀ cell k left₀ p₀ out left p = Down out₀ cell k out left p
+
+abbrev μ-loop : tie.MeasureT-loop
+μ-loop out₀ cell k left₀ p₀ out left p = p
+
+loop-holds : tie.Need-loop-holds Inv-loop μ-loop
+loop-holds c = search (needs, down-start)
+
+sub-p : tie.Need-sub-p Inv-loop μ-loop
+sub-p c = search needs
+
+cast-out : tie.Need-cast-out Inv-loop μ-loop
+cast-out c = search needs
+
+slice-write-out : tie.Need-slice-write-out Inv-loop μ-loop
+slice-write-out c = search needs
+
+loop-less : tie.Need-loop-less Inv-loop μ-loop
+loop-less c = search needs
+
+loop-again : tie.Need-loop-again Inv-loop μ-loop
+loop-again c = search (needs, down-again)
+
+same-length : tie.Need-same-length Inv-loop μ-loop
+same-length c = search needs
+
+returns : tie.Need-returns Inv-loop μ-loop
+returns c = search (needs, down-end)
+
+returns-2 : tie.Need-returns-2 Inv-loop μ-loop
+returns-2 c = put-none _ _ _ (sym (length-bytes _ _)) (c .if1 .left)
+
+pub lowest-spec : {M : Type 1} → statement M
+lowest-spec =
+    tie.close
+    (tie.spec
+    Inv-loop
+    μ-loop
+    loop-holds
+    sub-p
+    cast-out
+    slice-write-out
+    loop-less
+    loop-again
+    same-length
+    returns
+    returns-2)

@@ -1,0 +1,57 @@
+use mathlib.Core.Path.{refl}
+use Prim.Native.Nat.{_-_}
+use lib.ListN.{length}
+use borrow.Author.Needs.{needs}
+use Rattle.put.proofs.Lengths.{Copied, copied-again, copied-end, copied-start}
+use Rattle.put.proofs.Stored.{put-none}
+use Rattle.put.proofs.raw.Statement.{statement}
+use Rattle.put.proofs.raw.Tie as tie
+
+abbrev Inv-loop : tie.InvT-loop
+Inv-loop out₀ content p₀ out p = Copied out₀ content out p
+
+abbrev μ-loop : tie.MeasureT-loop
+μ-loop out₀ content p₀ out p = length content - p
+
+loop-holds : tie.Need-loop-holds Inv-loop μ-loop
+loop-holds c = search (needs, copied-start)
+
+shared-slice-read-out : tie.Need-shared-slice-read-out Inv-loop μ-loop
+shared-slice-read-out c = search needs
+
+slice-write-out : tie.Need-slice-write-out Inv-loop μ-loop
+slice-write-out c = search needs
+
+add-p : tie.Need-add-p Inv-loop μ-loop
+add-p c = search needs
+
+loop-less : tie.Need-loop-less Inv-loop μ-loop
+loop-less c = search needs
+
+loop-again : tie.Need-loop-again Inv-loop μ-loop
+loop-again c = search (needs, copied-again)
+
+same-length : tie.Need-same-length Inv-loop μ-loop
+same-length c = search needs
+
+returns : tie.Need-returns Inv-loop μ-loop
+returns c = search (needs, copied-end)
+
+returns-2 : tie.Need-returns-2 Inv-loop μ-loop
+returns-2 c = put-none _ _ _ refl (c .if1 .left)
+
+pub raw-spec : {M : Type 1} → statement M
+raw-spec =
+    tie.close
+    (tie.spec
+    Inv-loop
+    μ-loop
+    loop-holds
+    shared-slice-read-out
+    slice-write-out
+    add-p
+    loop-less
+    loop-again
+    same-length
+    returns
+    returns-2)

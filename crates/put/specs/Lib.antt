@@ -1,0 +1,2 @@
+-- what a writer leaves
+pub mod Put

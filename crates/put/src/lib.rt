@@ -1,0 +1,178 @@
+// Writers of what is left of the output: each is lent the rest behind what was written before it, and its promise speaks of that part.
+// It stores its bytes at the front where all of them fit, and nothing where they do not, and always tells how many they are.
+ghost use mathlib.Core.Path.{_≡_};
+ghost use lib.ListN.{length};
+ghost use Prim.Native.Nat.{_+_, min};
+ghost use Rattle.layout.specs.Primitives.{bytes, flagBytes, lengthBytes, nullBytes, unsignedBytes};
+ghost use Rattle.rows.specs.Step.{cap};
+ghost use Rattle.put.specs.Put.{Put, behindLength, sizeOf};
+use primitives::MOST;
+
+// How a length or count is carried: as a signed number of so many bits, −1 for null; or one more than it as an unsigned varint, 0 for null.
+pub enum Form {
+    Int16,
+    Int32,
+    Compact,
+}
+
+// Two counts together. Over the limit counts are not told apart, so that no sum is too big for a number.
+pub fn add(n: usize, m: usize) -> usize
+    ensures { λ r. ⌜ cap r ≡ cap (n + m) ⌝ }
+{
+    if MOST < n {
+        return n;
+    }
+    if MOST < m {
+        return m;
+    }
+    n + m
+}
+
+// Where the rest behind n bytes begins: at the end, where there are not so many.
+pub fn behind(n: usize, room: usize) -> usize
+    ensures { λ r. ⌜ r ≡ min n room ⌝ }
+{
+    if n <= room {
+        return n;
+    }
+    room
+}
+
+// The lowest k bytes of the cell, highest first.
+pub fn lowest(out: &mut [u8], cell: u64, k: usize) -> usize
+    ensures { λ r. ⌜ Put (bytes k cell) (now (out .entry)) r (now (out .exit)) ⌝ }
+{
+    if k <= out.len() {
+        let mut left = cell;
+        let mut p = k;
+        while 0 < p {
+            p = p - 1;
+            out[p] = (left % 256) as u8;
+            left = left / 256;
+        }
+    }
+    k
+}
+
+pub fn boolean(out: &mut [u8], value: bool) -> usize
+    ensures { λ r. ⌜ Put (flagBytes value) (now (out .entry)) r (now (out .exit)) ⌝ }
+{
+    lowest(out, value as u64, 1)
+}
+
+// How many bytes the shortest form of n has.
+pub fn varint_length(n: u64) -> usize
+    ensures { λ r. ⌜ r ≡ length (unsignedBytes n) ⌝ }
+{
+    let mut count: usize = 1;
+    let mut left = n;
+    while 128 <= left {
+        left = left / 128;
+        count = count + 1;
+    }
+    count
+}
+
+// Seven bits a byte, lowest first, in the shortest form.
+pub fn unsigned_varint(out: &mut [u8], n: u64) -> usize
+    ensures { λ r. ⌜ Put (unsignedBytes n) (now (out .entry)) r (now (out .exit)) ⌝ }
+{
+    let count = varint_length(n);
+    if count <= out.len() {
+        let mut left = n;
+        let mut p: usize = 0;
+        while 128 <= left {
+            let group = 128 + left % 128;
+            // Never: seven bits and the bit that says that more follow fit a byte.
+            if 255 < group {
+                return count;
+            }
+            out[p] = group as u8;
+            left = left / 128;
+            p = p + 1;
+        }
+        out[p] = left as u8;
+    }
+    count
+}
+
+// The bytes themselves.
+pub fn raw(out: &mut [u8], content: &[u8]) -> usize
+    ensures { λ r. ⌜ Put (now (content .entry)) (now (out .entry)) r (now (out .exit)) ⌝ }
+{
+    if content.len() <= out.len() {
+        let mut p: usize = 0;
+        while p < content.len() {
+            out[p] = content[p];
+            p = p + 1;
+        }
+    }
+    content.len()
+}
+
+// One more than n, as a compact length has it. No slice and no table reaches the last branch: one more than n is 65 bits.
+fn compact_length(out: &mut [u8], n: u64) -> usize
+    ensures { λ r. ⌜ Put (unsignedBytes (n + 1)) (now (out .entry)) r (now (out .exit)) ⌝ }
+{
+    if n < 18446744073709551615 {
+        return unsigned_varint(out, n + 1);
+    }
+    raw(out, &[128, 128, 128, 128, 128, 128, 128, 128, 128, 2])
+}
+
+// How many bytes that takes.
+fn compact_size(n: u64) -> usize
+    ensures { λ r. ⌜ r ≡ length (unsignedBytes (n + 1)) ⌝ }
+{
+    if n < 18446744073709551615 {
+        return varint_length(n + 1);
+    }
+    10
+}
+
+// How many bytes a length takes.
+pub fn length_size(form: Form, n: u64) -> usize
+    ensures { λ r. ⌜ r ≡ length (lengthBytes (sizeOf form) n) ⌝ }
+{
+    match form {
+        Form::Int16 => 2,
+        Form::Int32 => 4,
+        Form::Compact => compact_size(n),
+    }
+}
+
+// The length or count of what follows.
+pub fn length(out: &mut [u8], form: Form, n: u64) -> usize
+    ensures { λ r. ⌜ Put (lengthBytes (sizeOf form) n) (now (out .entry)) r (now (out .exit)) ⌝ }
+{
+    match form {
+        Form::Int16 => lowest(out, n, 2),
+        Form::Int32 => lowest(out, n, 4),
+        Form::Compact => compact_length(out, n),
+    }
+}
+
+// Null in the place of a length or count.
+pub fn null(out: &mut [u8], form: Form) -> usize
+    ensures { λ r. ⌜ Put (nullBytes (sizeOf form)) (now (out .entry)) r (now (out .exit)) ⌝ }
+{
+    match form {
+        Form::Int16 => lowest(out, 65535, 2),
+        Form::Int32 => lowest(out, 4294967295, 4),
+        Form::Compact => unsigned_varint(out, 0),
+    }
+}
+
+// A text or data behind its length.
+pub fn sized(out: &mut [u8], form: Form, content: &[u8]) -> usize
+    ensures { λ r. ⌜ Put (behindLength (sizeOf form) (now (content .entry))) (now (out .entry)) r (now (out .exit)) ⌝ }
+{
+    let count = content.len() as u64;
+    let head = length_size(form, count);
+    let all = head + content.len();
+    if all <= out.len() {
+        length(out, form, count);
+        raw(&mut out[head..], content);
+    }
+    all
+}
