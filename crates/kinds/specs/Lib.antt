@@ -1,0 +1,2 @@
+-- the kinds of primitives, read and written
+pub mod Kinds

@@ -1,0 +1,29 @@
+// Primitives by the number of their kind, as a caller that has only numbers asks for them. `read` and `write` have a call each.
+ghost use mathlib.Core.Path.{_≡_};
+ghost use Rattle.kinds.specs.Kinds.{isSet};
+use primitives::Refusal;
+
+pub mod read;
+pub mod write;
+
+// A primitive that was read. `form` is 2 for a value and 1 for null; `value` is the cell of a number, a count, or the start of a part of the message;
+// `length` is that of a part.
+pub enum Reply {
+    Took {
+        form: u64,
+        value: u64,
+        length: u64,
+        used: usize,
+    },
+    Refused(Refusal),
+}
+
+// 0 is false, any other number true.
+pub fn is_set(n: u64) -> bool
+    ensures { λ r. ⌜ r ≡ isSet n ⌝ }
+{
+    if n == 0 {
+        return false;
+    }
+    true
+}

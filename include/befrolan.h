@@ -1,0 +1,207 @@
+/* Befrolan: bodies of Kafka messages, read from bytes and written to bytes. The C interface.
+ *
+ * The functions hold no state, allocate nothing and keep no pointer. Every answer is a struct of numbers.
+ * Each function's promise, which the prover has checked, stands at its definition in crates/gateway/src.
+ *
+ * Slices. A slice is two parameters: a pointer, and how many elements there are. An empty slice has the length 0
+ * and still a pointer that is not null and is aligned for its element. What is lent to be written to must not
+ * overlap anything else that is lent to the same call.
+ *
+ * Cells. Numbers in tables and answers are cells: 64 bits, two's complement. They are declared as int64_t.
+ *
+ * Tables. A table is a slice of cells, row behind row; a cut row at its end is no row. Rows are filled from the
+ * front. Cells behind the rows filled, and bytes behind those written, stay as they were. After a refusal
+ * everything that was lent is as it was.
+ *
+ * Texts and data are parts: a start and a length, counted in bytes from the front of the message that was read,
+ * or of `lent`, the bytes beside what is written.
+ */
+#ifndef BEFROLAN_H
+#define BEFROLAN_H
+
+#include <stddef.h>
+#include <stdint.h>
+
+#ifdef __cplusplus
+extern "C" {
+#endif
+
+/* ---- refusals: `number` of an answer. The place is a byte of the message; on writing it is always 0. */
+
+enum {
+    BEFROLAN_ACCEPTED = 0,
+    BEFROLAN_NO_VERSION = 1,        /* the message has no such version; there is no such kind. Place 0 */
+    BEFROLAN_TOO_LONG = 2,          /* message, or what would be written, over BEFROLAN_MOST bytes. Place 0 */
+    BEFROLAN_BYTES_END = 3,         /* the bytes end inside a primitive. Its start */
+    BEFROLAN_LENGTH_BELOW = 4,      /* a length or count below what is allowed. Its start */
+    BEFROLAN_VARINT_CONTINUES = 5,  /* the tenth byte of a varint continues. The varint's start */
+    BEFROLAN_LENGTH_ZERO = 6,       /* length 0 in a compact string or compact bytes. Its start */
+    BEFROLAN_NOT_TEXT = 7,          /* a text that is not UTF-8. Its start */
+    BEFROLAN_NULL_ITEMS = 8,        /* null items in a whole read. The count's start */
+    BEFROLAN_BYTES_LEFT = 9,        /* bytes left over in a whole read. The first of them */
+    BEFROLAN_NO_ROOM = 10,          /* a table or the output is too small; `need` tells the rows or bytes needed. Place 0 */
+    BEFROLAN_TOO_WIDE = 11,         /* a number that its type cannot hold; a text or data too long for its length. Its start */
+    BEFROLAN_GROUP_TOO_WIDE = 12,   /* kept from the ported code; no call gives it */
+    BEFROLAN_BAD_TABLES = 13        /* counts that do not add up to the rows, or below -1, or -1 where there is no unset;
+                                       a part outside the lent bytes. Place 0 */
+};
+
+/* No message and no written body has more bytes. */
+#define BEFROLAN_MOST 1048576
+
+/* ---- rows of tables */
+
+/* An item of an ApiVersions response: API key, minimum version, maximum version, number of its tags
+ * (BEFROLAN_UNSET where the version has none, or where they are unset). */
+#define BEFROLAN_ITEM_CELLS 4
+
+/* A tag: the tag, and start and length of its data. */
+#define BEFROLAN_TAG_CELLS 3
+
+/* The number of tags where they are absent in the version or unset. */
+#define BEFROLAN_UNSET (-1)
+
+/* Of a throttle time and of a request's text: absent in the version or unset, or there.
+ * To a writer any kind but 0 means that it is there. */
+#define BEFROLAN_ABSENT 0
+#define BEFROLAN_PRESENT 2
+
+/* ---- answers. Where `number` is 0 the call accepted, and `place` and `need` are 0. Else it refused, `place` and
+ * `need` say more, and every other number is 0. */
+
+/* Of a writer: `used` bytes were written, at the front of the output. */
+typedef struct {
+    int64_t number, place, need, used;
+} befrolan_numbers;
+
+/* Of tagged fields that were read: the bytes used, and how many tags there are. */
+typedef struct {
+    int64_t number, place, need, used;
+    int64_t tags;
+} befrolan_tags_numbers;
+
+/* Of a primitive that was read. */
+typedef struct {
+    int64_t number, place, need, used;
+    int64_t form;   /* BEFROLAN_VALUE or BEFROLAN_NULL */
+    int64_t value;  /* the number, the count, or the start of the part; a BOOLEAN is 0 or 1 */
+    int64_t length; /* of a part; else 0 */
+} befrolan_primitive_numbers;
+
+#define BEFROLAN_NULL 1
+#define BEFROLAN_VALUE 2
+
+/* Of an ApiVersions response that was read. */
+typedef struct {
+    int64_t number, place, need, used;
+    int64_t error;
+    int64_t items;    /* how many; null items of a prefix read are none */
+    int64_t kind;     /* of the throttle time: BEFROLAN_ABSENT or BEFROLAN_PRESENT */
+    int64_t throttle;
+    int64_t tags;     /* the body's own, behind those of the items; BEFROLAN_UNSET where the version has none */
+} befrolan_response_numbers;
+
+/* Of an ApiVersions request that was read: the client's name and its version, each with kind, start and length. */
+typedef struct {
+    int64_t number, place, need, used;
+    int64_t named, nstart, nlength;
+    int64_t versioned, vstart, vlength;
+    int64_t tags;
+} befrolan_request_numbers;
+
+/* ---- ApiVersions, versions 0 to 3 */
+
+/* Reads a response. `whole` 0: a prefix read, which takes what stands at the front of the message, and null items as
+ * none. Any other: a whole read, which refuses null items and bytes left over. */
+befrolan_response_numbers befrolan_read_api_versions_response(
+    const uint8_t *msg, size_t msg_len,
+    int16_t version,
+    uint64_t whole,
+    int64_t *items, size_t items_len,
+    int64_t *tags, size_t tags_len);
+
+/* Reads a request at the front of the message. */
+befrolan_request_numbers befrolan_read_api_versions_request(
+    const uint8_t *msg, size_t msg_len,
+    int16_t version,
+    int64_t *tags, size_t tags_len);
+
+/* Writes a response. `body`: error, number of items, kind of the throttle time, throttle time, number of own tags.
+ * What the version lacks is dropped. An unset throttle time is written as 0, unset tags as none. */
+befrolan_numbers befrolan_write_api_versions_response(
+    uint8_t *out, size_t out_len,
+    int16_t version,
+    const uint8_t *lent, size_t lent_len,
+    const int64_t body[5],
+    const int64_t *items, size_t items_len,
+    const int64_t *tags, size_t tags_len);
+
+/* Writes a request. `body`: kind, start and length of the client's name, the same of its version, number of tags.
+ * Unset texts are written as empty ones. */
+befrolan_numbers befrolan_write_api_versions_request(
+    uint8_t *out, size_t out_len,
+    int16_t version,
+    const uint8_t *lent, size_t lent_len,
+    const int64_t body[7],
+    const int64_t *tags, size_t tags_len);
+
+/* Agreement on versions with a broker, from the item rows of its response: three rows of three numbers, API key,
+ * chosen version and broker's maximum, for ApiVersions (18), Metadata (3) and Fetch (1). The first row of a key
+ * decides. The choice is the highest common version, -1 if there is none; a key that is not listed has the maximum -1. */
+void befrolan_agree(const int64_t *items, size_t items_len, int64_t rows[9]);
+
+/* ---- primitives, each by itself */
+
+enum {
+    BEFROLAN_INT8 = 0,
+    BEFROLAN_INT16 = 1,
+    BEFROLAN_INT32 = 2,
+    BEFROLAN_INT64 = 3,
+    BEFROLAN_BOOLEAN = 4,
+    BEFROLAN_UNSIGNED_VARINT = 5,
+    BEFROLAN_VARINT = 6,
+    BEFROLAN_VARLONG = 7,
+    BEFROLAN_ARRAY = 8,         /* the count of an ARRAY */
+    BEFROLAN_COMPACT_ARRAY = 9, /* the count of a COMPACT_ARRAY */
+    BEFROLAN_BYTES = 10,
+    BEFROLAN_NULLABLE_BYTES = 11,
+    BEFROLAN_COMPACT_BYTES = 12,
+    BEFROLAN_RECORDS = 13,      /* null reads as empty, and none is written */
+    BEFROLAN_STRING = 14,
+    BEFROLAN_NULLABLE_STRING = 15,
+    BEFROLAN_COMPACT_STRING = 16,
+    BEFROLAN_COMPACT_NULLABLE_STRING = 17
+};
+
+/* Reads the primitive at the front of the message. A kind that is not listed is refused with BEFROLAN_NO_VERSION. */
+befrolan_primitive_numbers befrolan_read_primitive(const uint8_t *msg, size_t msg_len, uint64_t kind);
+
+/* Writes a primitive at the front of the output. `value` is the number or the count, of a BOOLEAN 0 or any other;
+ * `content` is the text or data; `null` is not 0 for null, in the nullable kinds and the counts. What the kind does
+ * not take is not looked at. An UNSIGNED_VARINT is the cell as a number from 0 to 2^64 - 1, and so is a count. */
+befrolan_numbers befrolan_write_primitive(
+    uint8_t *out, size_t out_len,
+    uint64_t kind,
+    uint64_t null,
+    int64_t value,
+    const uint8_t *content, size_t content_len);
+
+/* ---- tagged fields, by themselves */
+
+/* Reads them from the front of the message into rows of tag, start, length. */
+befrolan_tags_numbers befrolan_read_tagged_fields(
+    const uint8_t *msg, size_t msg_len,
+    int64_t *table, size_t table_len);
+
+/* Writes `count` of them, BEFROLAN_UNSET for unset ones. */
+befrolan_numbers befrolan_write_tagged_fields(
+    uint8_t *out, size_t out_len,
+    const uint8_t *lent, size_t lent_len,
+    int64_t count,
+    const int64_t *table, size_t table_len);
+
+#ifdef __cplusplus
+}
+#endif
+
+#endif
