@@ -1,0 +1,119 @@
+//! The calls of docs/ANSWERS.md, each with the rules' side and the Rust's. A new message is lines here.
+use crate::line::Refusal;
+use crate::model::primitives::{Form, Null, Primitive};
+use crate::model::write::Given;
+use crate::model::{api_versions, primitives, write, Shown};
+use crate::rust;
+use crate::token::Token;
+
+/// A primitive by itself: what it is called to be read and to be written.
+pub struct Named {
+    pub read: &'static str,
+    pub write: &'static str,
+    pub primitive: Primitive,
+}
+
+const fn named(read: &'static str, write: &'static str, primitive: Primitive) -> Named {
+    Named { read, write, primitive }
+}
+
+pub static PRIMITIVES: [Named; 18] = [
+    named("int8", "write_int8", Primitive::Int(1)),
+    named("int16", "write_int16", Primitive::Int(2)),
+    named("int32", "write_int32", Primitive::Int(4)),
+    named("int64", "write_int64", Primitive::Int(8)),
+    named("boolean", "write_boolean", Primitive::Boolean),
+    named("unsigned_varint", "write_unsigned_varint", Primitive::UnsignedVarint),
+    named("varint", "write_varint", Primitive::Varint),
+    named("varlong", "write_varlong", Primitive::Varlong),
+    named("array_count", "write_array_count", Primitive::Count(Form::Int32)),
+    named("compact_array_count", "write_compact_array_count", Primitive::Count(Form::Compact)),
+    named("bytes", "write_bytes", Primitive::Bytes(Form::Int32, Null::Never)),
+    named("nullable_bytes", "write_nullable_bytes", Primitive::Bytes(Form::Int32, Null::Kept)),
+    named("compact_bytes", "write_compact_bytes", Primitive::Bytes(Form::Compact, Null::Never)),
+    named("records", "write_records", Primitive::Bytes(Form::Int32, Null::Empty)),
+    named("string", "write_string", Primitive::Text(Form::Int16, Null::Never)),
+    named("nullable_string", "write_nullable_string", Primitive::Text(Form::Int16, Null::Kept)),
+    named("compact_string", "write_compact_string", Primitive::Text(Form::Compact, Null::Never)),
+    named("compact_nullable_string", "write_compact_nullable_string", Primitive::Text(Form::Compact, Null::Kept)),
+];
+
+/// A read that fills lent tables.
+pub struct ReadBody {
+    pub name: &'static str,
+    /// The last version, where the call is given one.
+    pub last: Option<i16>,
+    /// Row widths of the tables, by rank.
+    pub widths: &'static [usize],
+    pub whole: bool,
+    /// Version, whether null items are refused, and the message, whose size is not judged.
+    pub model: for<'a> fn(i16, bool, &'a [u8]) -> Result<Shown<'a>, Refusal>,
+    pub spell: for<'a> fn(&Shown<'a>, &'a [u8]) -> Vec<Token<'a>>,
+    pub rust: fn(i16, &[u8]) -> rust::Read,
+}
+
+/// A read of the ApiVersions response.
+pub const fn response(name: &'static str, whole: bool) -> ReadBody {
+    ReadBody {
+        name,
+        last: Some(api_versions::LAST),
+        widths: &[4, 3],
+        whole,
+        model: api_versions::read_response,
+        spell: api_versions::spell_response,
+        rust: rust::api_versions::read_response,
+    }
+}
+
+pub static TAGGED_FIELDS: ReadBody = ReadBody {
+    name: "tagged_fields",
+    last: None,
+    widths: &[3],
+    whole: false,
+    model: primitives::read_tagged_fields,
+    spell: primitives::spell_tagged_fields,
+    rust: rust::primitives::read_tagged_fields,
+};
+
+pub static RESPONSE_READS: [ReadBody; 3] =
+    [response("response_read", false), response("response_read_whole", true), response("response_read_answer", true)];
+
+pub static REQUEST_READ: ReadBody = ReadBody {
+    name: "request_read",
+    last: Some(api_versions::LAST),
+    widths: &[3],
+    whole: false,
+    model: api_versions::read_request,
+    spell: api_versions::spell_request,
+    rust: rust::api_versions::read_request,
+};
+
+/// A write from tables.
+pub struct WriteBody {
+    pub name: &'static str,
+    pub last: Option<i16>,
+    /// 13, 7 and 11, or the bytes; neither size nor room is judged.
+    pub model: fn(i16, &Given) -> Result<Vec<u8>, Refusal>,
+    pub rust: fn(i16, &Given) -> Result<rust::Written, rust::Silence>,
+}
+
+pub static WRITE_TAGGED_FIELDS: WriteBody = WriteBody {
+    name: "write_tagged_fields",
+    last: None,
+    model: write::write_tagged_fields,
+    rust: rust::primitives::write_tagged_fields,
+};
+
+pub static RESPONSE_WRITE: WriteBody = WriteBody {
+    name: "response_write",
+    last: Some(api_versions::LAST),
+    model: api_versions::write_response,
+    rust: rust::api_versions::write_response,
+};
+
+pub static REQUEST_WRITE: WriteBody = WriteBody {
+    name: "request_write",
+    last: Some(api_versions::LAST),
+    model: api_versions::write_request,
+    rust: rust::api_versions::write_request,
+};

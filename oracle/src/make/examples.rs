@@ -1,0 +1,128 @@
+//! The worked examples E1 to E12 and the further ones that are calls here: docs/RULES.md, section 12. Each has the answer
+//! that the page gives, written down by hand, so the model is held against it too (tests/examples.rs).
+use super::Section;
+use crate::calls::{ReadBody, WriteBody, PRIMITIVES, REQUEST_WRITE, RESPONSE_READS, RESPONSE_WRITE};
+use crate::case::Case;
+use crate::model::write::{Own, Value};
+
+pub fn section() -> Section {
+    Section::new(all().len() as u64, |index| all().swap_remove(index as usize).0)
+}
+
+/// Each case with the line that answers it.
+pub fn all() -> Vec<(Case, &'static str)> {
+    [primitives(), responses(), further()].into_iter().flatten().collect()
+}
+
+fn bytes(hex: &str) -> Vec<u8> {
+    let digits: Vec<u8> = hex.bytes().filter(|b| *b != b' ').collect();
+    digits.chunks(2).map(|pair| u8::from_str_radix(std::str::from_utf8(pair).unwrap(), 16).unwrap()).collect()
+}
+
+fn read(name: &str, hex: &str) -> Case {
+    let call = PRIMITIVES.iter().find(|call| call.read == name).expect("a primitive");
+    Case::Read { call, message: bytes(hex) }
+}
+
+fn write(name: &str, room: usize, value: Value) -> Case {
+    let call = PRIMITIVES.iter().find(|call| call.write == name).expect("a primitive");
+    Case::Write { call, room, value }
+}
+
+fn primitives() -> Vec<(Case, &'static str)> {
+    let nines = |last: &str| "ff".repeat(9) + last;
+    vec![
+        (read("unsigned_varint", "ac02"), "ok 2 300"),
+        (write("write_unsigned_varint", 3, Value::Number(300)), "ok 2 ac02a5 kept"),
+        (read("unsigned_varint", &nines("01")), "ok 10 18446744073709551615"),
+        (read("unsigned_varint", &nines("7f")), "ok 10 18446744073709551615"),
+        (read("unsigned_varint", &"80".repeat(10)), "no 5 0 0"),
+        (read("varint", "01"), "ok 1 -1"),
+        (write("write_varint", 1, Value::Number(-1)), "ok 1 01 kept"),
+        (read("varint", "ffffffff0f"), "ok 5 -2147483648"),
+        (write("write_varint", 5, Value::Number(-(1 << 31))), "ok 5 ffffffff0f kept"),
+        (read("varint", "8080808010"), "no 11 0 0"),
+        (read("nullable_string", "ffff"), "ok 2 null"),
+        (read("nullable_string", "fffe"), "no 4 0 0"),
+        (read("compact_string", "00"), "no 6 0 0"),
+        (read("compact_string", "01"), "ok 1 1:-"),
+    ]
+}
+
+fn response(call: &'static ReadBody, version: i16, hex: &str) -> Case {
+    Case::ReadBody { call, version, rooms: vec![8, 3], message: bytes(hex) }
+}
+
+fn put(call: &'static WriteBody, version: i16, room: usize, lent: &str, own: &[Own], tables: &[&[i64]]) -> Case {
+    let tables = tables.iter().map(|cells| cells.to_vec()).collect();
+    Case::WriteBody { call, room, version, lent: bytes(lent), own: own.to_vec(), tables }
+}
+
+fn responses() -> Vec<(Case, &'static str)> {
+    let [prefix, whole, _] = &RESPONSE_READS;
+    let (number, unset) = (Own::Number, Own::Absent);
+    let e9 = "0000 00000001 0012 0000 0003";
+    let e10 = "0000 00000001 0012 0000 0003 00000000";
+    let e11 = "0000 02 0012 0000 0003 00 00000000 00";
+    let e12 = "0000 00000000 00010500";
+    let one = [number(0), number(1), unset, number(-1)];
+    let write = &RESPONSE_WRITE;
+    vec![
+        (put(write, 0, 14, "", &one, &[&[18, 0, 3, -1], &[]]), "ok 12 000000000001001200000003a5a5 kept"),
+        (response(whole, 0, e9), "ok 12 0 1 absent -1 18,0,3,-1,777*4 777,777,777 kept"),
+        (response(whole, 1, e9), "no 3 12 0 777*8 777,777,777 kept"),
+        (response(whole, 3, e9), "no 8 2 0 777*8 777,777,777 kept"),
+        (
+            put(write, 1, 16, "", &[number(0), number(1), number(0), number(-1)], &[&[18, 0, 3, -1], &[]]),
+            "ok 16 00000000000100120000000300000000 kept",
+        ),
+        (response(whole, 1, e10), "ok 16 0 1 0 -1 18,0,3,-1,777*4 777,777,777 kept"),
+        (response(whole, 0, e10), "no 9 12 0 777*8 777,777,777 kept"),
+        (
+            put(write, 3, 15, "", &[number(0), number(1), number(0), number(0)], &[&[18, 0, 3, 0], &[]]),
+            "ok 15 000002001200000003000000000000 kept",
+        ),
+        (response(whole, 3, e11), "ok 15 0 1 0 0 18,0,3,0,777*4 777,777,777 kept"),
+        (response(whole, 0, e11), "no 3 14 0 777*8 777,777,777 kept"),
+        (
+            put(write, 1, 10, "", &[number(0), number(0), number(66_816), number(-1)], &[&[], &[]]),
+            "ok 10 00000000000000010500 kept",
+        ),
+        (response(prefix, 3, e12), "ok 10 0 0 0 1 777*8 5,10,0 kept"),
+        (response(whole, 3, e12), "no 8 2 0 777*8 777,777,777 kept"),
+    ]
+}
+
+fn further() -> Vec<(Case, &'static str)> {
+    let rows = [18, 0, 4, -1, 3, -1, 0, -1, 1, 0, 3, -1, 1, 4, 4, -1];
+    let mut list = vec![
+        (read("string", "0004 f48fbfbf"), "ok 6 2:f48fbfbf"),
+        (read("string", "0004 f4908080"), "no 7 0 0"),
+        (read("string", "0002 c080"), "no 7 0 0"),
+        (read("string", "0003 eda080"), "no 7 0 0"),
+        (read("string", "0004 c080"), "no 3 0 0"),
+        (Case::WellFormed(bytes("61f48fbfbf")), "ok 5"),
+        (Case::WellFormed(bytes("61eda080")), "ok 1"),
+        (Case::IsText(bytes("c080")), "ok 0"),
+        (write("write_string", 32_770, Value::Contents(vec![b'a'; 32_767])), "ok 32769 7fff,61*32767,a5 kept"),
+        (write("write_string", 9, Value::Contents(vec![b'a'; 32_768])), "no 11 0 0 a5*9 kept"),
+        (write("write_int16", 2, Value::Number(70_000)), "no 11 0 0 a5a5 kept"),
+        (put(&REQUEST_WRITE, 3, 4, "", &[Own::Absent, Own::Absent, Own::Number(-1)], &[&[]]), "ok 3 010100a5 kept"),
+        (
+            put(
+                &RESPONSE_WRITE,
+                0,
+                8,
+                "",
+                &[Own::Number(0), Own::Number(-1), Own::Absent, Own::Number(-1)],
+                &[&[], &[]],
+            ),
+            "no 13 0 0 a5*8 kept",
+        ),
+        (Case::Agree(rows.to_vec()), "ok 18 3 4 3 0 0 1 -1 3"),
+    ];
+    for call in &RESPONSE_READS {
+        list.extend((0..=3).map(|version| (response(call, version, ""), "no 3 0 0 777*8 777,777,777 kept")));
+    }
+    list
+}

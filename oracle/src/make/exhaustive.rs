@@ -1,0 +1,87 @@
+//! All strings of a kind, each given to every call of a list.
+use super::Section;
+use crate::calls::{Named, ReadBody, PRIMITIVES, REQUEST_READ, RESPONSE_READS, TAGGED_FIELDS};
+use crate::case::Case;
+use std::ops::RangeInclusive;
+
+/// Bytes that tell things apart: ends of counts and lengths, a letter, the first byte of a character.
+pub const TELLING: [u8; 8] = [0x00, 0x01, 0x02, 0x7f, 0x80, 0xff, 0x61, 0xc3];
+
+/// A call that takes any message.
+#[derive(Clone, Copy)]
+pub enum Ask {
+    WellFormed,
+    IsText,
+    Primitive(&'static Named),
+    Body(&'static ReadBody, i16),
+}
+
+impl Ask {
+    /// The case; rooms of nothing, a cut row, one, two and three rows take turns.
+    pub fn of(self, message: Vec<u8>, turn: u64) -> Case {
+        match self {
+            Ask::WellFormed => Case::WellFormed(message),
+            Ask::IsText => Case::IsText(message),
+            Ask::Primitive(call) => Case::Read { call, message },
+            Ask::Body(call, version) => {
+                let room = |(rank, width): (usize, &usize)| match (turn / 5u64.pow(rank as u32)) % 5 {
+                    0 => 2 * width,
+                    1 => *width,
+                    2 => 3 * width + 1,
+                    3 => width - 1,
+                    _ => 0,
+                };
+                let rooms = call.widths.iter().enumerate().map(room).collect();
+                Case::ReadBody { call, version, rooms, message }
+            }
+        }
+    }
+}
+
+/// Texts, primitives and tagged fields.
+pub fn primitives() -> Vec<Ask> {
+    let mut asks = vec![Ask::WellFormed, Ask::IsText, Ask::Body(&TAGGED_FIELDS, 0)];
+    asks.extend(PRIMITIVES.iter().map(Ask::Primitive));
+    asks
+}
+
+/// Those of them whose answer can depend on a third byte.
+pub fn long_primitives() -> Vec<Ask> {
+    let short = ["int8", "int16", "int32", "int64", "boolean", "array_count", "bytes", "nullable_bytes", "records"];
+    primitives().into_iter().filter(|ask| !matches!(ask, Ask::Primitive(call) if short.contains(&call.read))).collect()
+}
+
+/// Bodies at every version, as a prefix and whole.
+pub fn bodies() -> Vec<Ask> {
+    let calls = [&RESPONSE_READS[0], &RESPONSE_READS[1], &REQUEST_READ];
+    calls.iter().flat_map(|call| (0..=3).map(|version| Ask::Body(call, version))).collect()
+}
+
+pub fn all() -> Vec<Ask> {
+    [primitives(), bodies()].concat()
+}
+
+/// Every string of these lengths over an alphabet, for each call.
+pub fn strings(asks: Vec<Ask>, alphabet: Vec<u8>, lengths: RangeInclusive<u32>) -> Section {
+    let letters = alphabet.len() as u64;
+    let each: u64 = lengths.clone().map(|length| letters.pow(length)).sum();
+    let size = each * asks.len() as u64;
+    Section::new(size, move |index| {
+        let mut rest = index % each;
+        let mut length = *lengths.start();
+        while rest >= letters.pow(length) {
+            rest -= letters.pow(length);
+            length += 1;
+        }
+        let mut message = vec![0; length as usize];
+        for byte in message.iter_mut().rev() {
+            *byte = alphabet[(rest % letters) as usize];
+            rest /= letters;
+        }
+        asks[(index / each) as usize].of(message, index)
+    })
+}
+
+pub fn any_byte() -> Vec<u8> {
+    (0..=255).collect()
+}

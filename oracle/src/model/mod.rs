@@ -1,0 +1,98 @@
+//! The rules of docs/RULES.md as a plain reader and writer, written from the page and from nothing else. They give what the
+//! Rust has no word for: numbers, places, needs, starts and rows.
+pub mod agreement;
+pub mod api_versions;
+pub mod primitives;
+pub mod text;
+pub mod write;
+
+use crate::line::{Lent, Refusal, Word};
+
+/// The most bytes that a message or a written body has.
+pub const LIMIT: usize = 1_048_576;
+
+/// What an accepted read shows: own words, rows of each table, bytes used.
+#[derive(Debug, Clone, PartialEq, Eq)]
+pub struct Shown<'a> {
+    pub used: usize,
+    pub own: Vec<Word<'a>>,
+    pub tables: Vec<Vec<i64>>,
+}
+
+/// 1: a call with versions has those from 0 to `last`.
+pub fn judge_version(last: i16, version: i16) -> Result<(), Refusal> {
+    if (0..=last).contains(&version) {
+        Ok(())
+    } else {
+        Err(Refusal::at(1, 0))
+    }
+}
+
+/// 2, of a message and of what would be written.
+fn judge_size(size: usize) -> Result<(), Refusal> {
+    if size <= LIMIT {
+        Ok(())
+    } else {
+        Err(Refusal::at(2, 0))
+    }
+}
+
+/// 9: a whole read has used every byte.
+fn judge_rest(used: usize, size: usize) -> Result<(), Refusal> {
+    if used < size {
+        Err(Refusal::at(9, used))
+    } else {
+        Ok(())
+    }
+}
+
+/// 10 for the first table that has fewer rows than the value; a cut row is no row.
+fn judge_rooms(shown: &Shown, widths: &[usize], rooms: &[usize]) -> Result<(), Refusal> {
+    for ((cells, width), room) in shown.tables.iter().zip(widths).zip(rooms) {
+        let rows = cells.len() / width;
+        if room / width < rows {
+            return Err(Refusal::no_room(rows));
+        }
+    }
+    Ok(())
+}
+
+/// The order of refusals on reading: 1, 2, what the bytes gave, 9, 10.
+pub fn in_order<'s, 'a>(
+    version: Result<(), Refusal>,
+    size: usize,
+    bytes: &'s Result<Shown<'a>, Refusal>,
+    whole: bool,
+    widths: &[usize],
+    rooms: &[usize],
+) -> Result<&'s Shown<'a>, Refusal> {
+    version?;
+    judge_size(size)?;
+    let shown = bytes.as_ref().map_err(|no| *no)?;
+    if whole {
+        judge_rest(shown.used, size)?;
+    }
+    judge_rooms(shown, widths, rooms)?;
+    Ok(shown)
+}
+
+/// Lent tables behind a read: the value's rows at the front, or nothing where it was refused.
+pub fn laid(rooms: &[usize], fronts: Option<Vec<Vec<i64>>>) -> Vec<Lent> {
+    let fronts = fronts.unwrap_or_else(|| vec![vec![]; rooms.len()]);
+    rooms.iter().zip(fronts).map(|(room, front)| Lent::Table { room: *room, front }).collect()
+}
+
+/// The reply to a write that has come as far as its bytes, and the output behind it: 2, then 10, then the bytes at the front.
+pub fn stored<'a>(made: Result<&[u8], Refusal>, room: usize) -> (Result<Vec<Word<'a>>, Refusal>, Lent) {
+    let judged = made.and_then(|bytes| {
+        judge_size(bytes.len())?;
+        if room < bytes.len() {
+            return Err(Refusal::no_room(bytes.len()));
+        }
+        Ok(bytes)
+    });
+    match judged {
+        Ok(bytes) => (Ok(vec![Word::Number(bytes.len() as i128)]), Lent::Output { room, front: bytes.to_vec() }),
+        Err(no) => (Err(no), Lent::Output { room, front: vec![] }),
+    }
+}

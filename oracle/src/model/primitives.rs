@@ -1,0 +1,196 @@
+//! Primitives, read: docs/RULES.md, section 2. A reader holds the message and a place.
+use super::text::is_text;
+use super::Shown;
+use crate::line::{Refusal, Word};
+use crate::token::{of_word, put_tags, Token};
+
+/// How a length or a count is carried.
+#[derive(Debug, Clone, Copy, PartialEq, Eq)]
+pub enum Form {
+    Int16,
+    Int32,
+    Compact,
+}
+
+/// What a null is: not allowed, a value of its own, or the same as empty.
+#[derive(Debug, Clone, Copy, PartialEq, Eq)]
+pub enum Null {
+    Never,
+    Kept,
+    Empty,
+}
+
+#[derive(Debug, Clone, Copy, PartialEq, Eq)]
+pub enum Primitive {
+    /// INT8 to INT64, by the number of bytes.
+    Int(usize),
+    Boolean,
+    UnsignedVarint,
+    Varint,
+    Varlong,
+    Count(Form),
+    Bytes(Form, Null),
+    Text(Form, Null),
+}
+
+pub struct Reader<'a> {
+    pub message: &'a [u8],
+    pub at: usize,
+    /// Rows of each table, by rank.
+    pub tables: Vec<Vec<i64>>,
+}
+
+type Read<T> = Result<T, Refusal>;
+
+impl<'a> Reader<'a> {
+    pub fn new(message: &'a [u8], tables: usize) -> Self {
+        Self { message, at: 0, tables: vec![vec![]; tables] }
+    }
+
+    pub fn shown(self, own: Vec<Word<'a>>) -> Shown<'a> {
+        Shown { used: self.at, own, tables: self.tables }
+    }
+
+    /// Two's complement, highest byte first.
+    pub fn int(&mut self, bytes: usize) -> Read<i64> {
+        let end = self.at + bytes;
+        if end > self.message.len() {
+            return Err(Refusal::at(3, self.at));
+        }
+        let unsigned = self.message[self.at..end].iter().fold(0i128, |n, b| n * 256 + i128::from(*b));
+        self.at = end;
+        let half = 1i128 << (8 * bytes - 1);
+        Ok((if unsigned < half { unsigned } else { unsigned - 2 * half }) as i64)
+    }
+
+    /// Of the tenth byte only the lowest bit counts, and its highest refuses.
+    pub fn unsigned_varint(&mut self) -> Read<u64> {
+        let mut number: u128 = 0;
+        for i in 0..10 {
+            let byte = *self.message.get(self.at + i).ok_or(Refusal::at(3, self.at))?;
+            number += u128::from(byte % 128) << (7 * i);
+            if byte < 128 {
+                self.at += i + 1;
+                return Ok((number % (1 << 64)) as u64);
+            }
+        }
+        Err(Refusal::at(5, self.at))
+    }
+
+    fn varlong(&mut self) -> Read<i64> {
+        let carried = self.unsigned_varint()?;
+        let half = (carried / 2) as i64;
+        Ok(if carried % 2 == 0 { half } else { -half - 1 })
+    }
+
+    fn varint(&mut self) -> Read<i64> {
+        let start = self.at;
+        let number = self.varlong()?;
+        i32::try_from(number).map_err(|_| Refusal::at(11, start))?;
+        Ok(number)
+    }
+
+    /// A length or count; nothing for null.
+    pub fn length(&mut self, form: Form) -> Read<Option<u64>> {
+        let start = self.at;
+        let bytes = match form {
+            Form::Int16 => 2,
+            Form::Int32 => 4,
+            Form::Compact => return Ok(self.unsigned_varint()?.checked_sub(1)),
+        };
+        match self.int(bytes)? {
+            -1 => Ok(None),
+            n => u64::try_from(n).map(Some).map_err(|_| Refusal::at(4, start)),
+        }
+    }
+
+    /// So many bytes of contents from here on, for a primitive that began at `start`.
+    fn contents(&mut self, start: usize, length: u64) -> Read<Word<'a>> {
+        let rest = &self.message[self.at..];
+        if (rest.len() as u64) < length {
+            return Err(Refusal::at(3, start));
+        }
+        let part = Word::Part(self.at, &rest[..length as usize]);
+        self.at += length as usize;
+        Ok(part)
+    }
+
+    pub fn bytes(&mut self, form: Form, null: Null) -> Read<Word<'a>> {
+        let start = self.at;
+        match (self.length(form)?, null) {
+            (Some(length), _) => self.contents(start, length),
+            (None, Null::Kept) => Ok(Word::Null),
+            (None, Null::Empty) => self.contents(start, 0),
+            (None, Null::Never) => Err(Refusal::at(if form == Form::Compact { 6 } else { 4 }, start)),
+        }
+    }
+
+    pub fn text(&mut self, form: Form, null: Null) -> Read<Word<'a>> {
+        let start = self.at;
+        match self.bytes(form, null)? {
+            Word::Part(_, contents) if !is_text(contents) => Err(Refusal::at(7, start)),
+            word => Ok(word),
+        }
+    }
+
+    /// Rows (tag, start, length) behind those of the table; how many.
+    pub fn tagged_fields(&mut self, table: usize) -> Read<i64> {
+        let count = self.unsigned_varint()?;
+        for _ in 0..count {
+            let tag = self.unsigned_varint()?;
+            let start = self.at;
+            let length = self.unsigned_varint()?;
+            let data = self.at;
+            self.contents(start, length)?;
+            self.tables[table].extend([tag as i64, data as i64, length as i64]);
+        }
+        Ok(count as i64)
+    }
+
+    pub fn primitive(&mut self, primitive: Primitive) -> Read<Word<'a>> {
+        let number = |n: i64| Word::Number(n.into());
+        Ok(match primitive {
+            Primitive::Int(bytes) => number(self.int(bytes)?),
+            Primitive::Boolean => number((self.int(1)? != 0).into()),
+            Primitive::UnsignedVarint => Word::Number(self.unsigned_varint()?.into()),
+            Primitive::Varint => number(self.varint()?),
+            Primitive::Varlong => number(self.varlong()?),
+            Primitive::Count(form) => self.length(form)?.map_or(Word::Null, |n| Word::Number(n.into())),
+            Primitive::Bytes(form, null) => self.bytes(form, null)?,
+            Primitive::Text(form, null) => self.text(form, null)?,
+        })
+    }
+}
+
+/// As much of a part as the message has.
+pub fn part(message: &[u8], start: u64, length: u64) -> &[u8] {
+    let size = message.len() as u64;
+    let from = start.min(size);
+    let to = from + length.min(size - from);
+    &message[from as usize..to as usize]
+}
+
+/// A primitive called by itself, size not judged.
+pub fn read(primitive: Primitive, message: &[u8]) -> Read<Shown<'_>> {
+    let mut reader = Reader::new(message, 0);
+    let word = reader.primitive(primitive)?;
+    Ok(reader.shown(vec![word]))
+}
+
+/// Tagged fields called by themselves.
+pub fn read_tagged_fields(_version: i16, _whole: bool, message: &[u8]) -> Read<Shown<'_>> {
+    let mut reader = Reader::new(message, 1);
+    let count = reader.tagged_fields(0)?;
+    Ok(reader.shown(vec![Word::Number(count.into())]))
+}
+
+pub fn spell<'a>(shown: &Shown<'a>, _message: &'a [u8]) -> Vec<Token<'a>> {
+    shown.own.iter().map(of_word).collect()
+}
+
+pub fn spell_tagged_fields<'a>(shown: &Shown<'a>, message: &'a [u8]) -> Vec<Token<'a>> {
+    let [Word::Number(count)] = shown.own[..] else { unreachable!() };
+    let mut tokens = vec![];
+    put_tags(&mut tokens, count, &mut shown.tables[0].chunks_exact(3), message);
+    tokens
+}
