@@ -95,17 +95,17 @@ typedef struct {
 typedef struct {
     int64_t number, place, need, used;
     int64_t error;
-    int64_t items;    /* how many; null items of a prefix read are none */
-    int64_t kind;     /* of the throttle time: BEFROLAN_ABSENT or BEFROLAN_PRESENT */
+    int64_t items;         /* how many; null items of a prefix read are none */
+    int64_t throttle_kind; /* BEFROLAN_ABSENT or BEFROLAN_PRESENT */
     int64_t throttle;
-    int64_t tags;     /* the body's own, behind those of the items; BEFROLAN_UNSET where the version has none */
+    int64_t tags;          /* the body's own, behind those of the items; BEFROLAN_UNSET where the version has none */
 } befrolan_response_numbers;
 
 /* Of an ApiVersions request that was read: the client's name and its version, each with kind, start and length. */
 typedef struct {
     int64_t number, place, need, used;
-    int64_t named, nstart, nlength;
-    int64_t versioned, vstart, vlength;
+    int64_t name_kind, name_start, name_length;
+    int64_t version_kind, version_start, version_length;
     int64_t tags;
 } befrolan_request_numbers;
 

@@ -25,7 +25,7 @@ int main(void)
     for (int64_t i = 0; i < r.items; i++)
         printf("API %lld: versions %lld to %lld\n", (long long)items[4 * i], (long long)items[4 * i + 1],
                (long long)items[4 * i + 2]);
-    if (r.used != 12 || r.error != 0 || r.items != 1 || r.kind != BEFROLAN_ABSENT || r.tags != BEFROLAN_UNSET)
+    if (r.used != 12 || r.error != 0 || r.items != 1 || r.throttle_kind != BEFROLAN_ABSENT || r.tags != BEFROLAN_UNSET)
         return 1;
     if (items[0] != 18 || items[1] != 0 || items[2] != 3 || items[3] != BEFROLAN_UNSET)
         return 1;
@@ -40,7 +40,7 @@ int main(void)
         return 1;
 
     /* the own row, as it was read; no data are lent, so an empty slice with a pointer that is not null */
-    int64_t body[5] = {r.error, r.items, r.kind, r.throttle, r.tags};
+    int64_t body[5] = {r.error, r.items, r.throttle_kind, r.throttle, r.tags};
     uint8_t out[64];
     befrolan_numbers w = befrolan_write_api_versions_response(out, sizeof out, 0, msg, 0, body, items,
                                                               BEFROLAN_ITEM_CELLS, tags, 0);

@@ -103,12 +103,12 @@ static befrolan_response_numbers response(const uint8_t *m, size_t n, int16_t v,
 
 static int body(befrolan_response_numbers r, int64_t used, int64_t error, int64_t items, int64_t kind, int64_t throttle, int64_t tags)
 {
-    return USED(r, used) && r.error == error && r.items == items && r.kind == kind && r.throttle == throttle && r.tags == tags;
+    return USED(r, used) && r.error == error && r.items == items && r.throttle_kind == kind && r.throttle == throttle && r.tags == tags;
 }
 
 static int no_response(befrolan_response_numbers r, int64_t number, int64_t place, int64_t need)
 {
-    return REFUSED(r, number, place, need) && r.error == 0 && r.items == 0 && r.kind == 0 && r.throttle == 0 && r.tags == 0
+    return REFUSED(r, number, place, need) && r.error == 0 && r.items == 0 && r.throttle_kind == 0 && r.throttle == 0 && r.tags == 0
            && holds(first, no_cells, 0) && holds(second, no_cells, 0);
 }
 
@@ -161,12 +161,12 @@ static befrolan_request_numbers request(const uint8_t *m, size_t n, int16_t v, s
 
 static int texts(befrolan_request_numbers r, int64_t used, int64_t kind, int64_t a, int64_t k, int64_t b, int64_t m, int64_t tags)
 {
-    return USED(r, used) && r.named == kind && r.nstart == a && r.nlength == k && r.versioned == kind && r.vstart == b && r.vlength == m && r.tags == tags;
+    return USED(r, used) && r.name_kind == kind && r.name_start == a && r.name_length == k && r.version_kind == kind && r.version_start == b && r.version_length == m && r.tags == tags;
 }
 
 static int no_request(befrolan_request_numbers r, int64_t number, int64_t place, int64_t need)
 {
-    return REFUSED(r, number, place, need) && r.named == 0 && r.nstart == 0 && r.nlength == 0 && r.versioned == 0 && r.vstart == 0 && r.vlength == 0
+    return REFUSED(r, number, place, need) && r.name_kind == 0 && r.name_start == 0 && r.name_length == 0 && r.version_kind == 0 && r.version_start == 0 && r.version_length == 0
            && r.tags == 0 && holds(second, no_cells, 0);
 }
 

@@ -3,7 +3,11 @@ use crate::calls_written::told;
 use crate::grammar::first;
 use crate::grammar::second;
 use crate::grammar::there;
+use crate::lent;
 use crate::replies;
+use crate::sink::line_end;
+use crate::sink::next_cell;
+use crate::sink::text;
 use api_versions::ResponseBody;
 use api_versions::ResponseReply;
 use api_versions::Throttle;
@@ -11,10 +15,6 @@ use api_versions::response;
 use api_versions_request::RequestBody;
 use api_versions_request::RequestReply;
 use api_versions_request::Text;
-use cases::lent;
-use cases::sink::line_end;
-use cases::sink::next_cell;
-use cases::sink::text;
 
 // The version that a cell of 16 bits holds.
 fn version_of(c: u64) -> i16 {

@@ -1,19 +1,19 @@
 // The calls by name, and the words that each is given.
-use cases::lent;
-use cases::literals::Value;
-use cases::literals::bit;
-use cases::literals::number;
-use cases::literals::room;
-use cases::literals::version;
-use cases::literals::whole;
-use cases::pieces;
-use cases::pieces::Size;
-use cases::words::behind;
-use cases::words::between;
-use cases::words::find;
-use cases::words::given;
-use cases::words::is;
-use cases::words::word;
+use crate::lent;
+use crate::literals::Value;
+use crate::literals::bit;
+use crate::literals::number;
+use crate::literals::room;
+use crate::literals::version;
+use crate::literals::whole;
+use crate::pieces;
+use crate::pieces::Size;
+use crate::words::behind;
+use crate::words::between;
+use crate::words::find;
+use crate::words::given;
+use crate::words::is;
+use crate::words::word;
 
 // What a word stands for: two numbers at most, or nothing, for `null` and `absent`.
 pub enum Given {
@@ -206,7 +206,7 @@ fn listed(list: &[u8], name: &[u8]) -> Found {
     Found::Nothing
 }
 
-// The call of a line and what it is given. Calls have the numbers of their places here.
+// The call of a line and what it is given. Calls have the numbers of their places here; primitives, read and written, stand in the order of their kinds.
 pub(crate) fn case(
     line: &[u8],
     msg: &mut [u8],
@@ -215,16 +215,16 @@ pub(crate) fn case(
     to: &mut [u64],
 ) -> Found {
     let list = b"well_formed B is_text B \
-        int8 B int16 B int32 B int64 B varint B varlong B boolean B unsigned_varint B \
+        int8 B int16 B int32 B int64 B boolean B unsigned_varint B varint B varlong B \
         array_count B compact_array_count B \
-        bytes B compact_bytes B records B string B compact_string B \
-        nullable_bytes B nullable_string B compact_nullable_string B \
+        bytes B nullable_bytes B compact_bytes B records B \
+        string B nullable_string B compact_string B compact_nullable_string B \
         part BLL tagged_fields RB \
-        write_int8 ON write_int16 ON write_int32 ON write_int64 ON write_varint ON write_varlong ON \
-        write_boolean OF write_unsigned_varint ON \
+        write_int8 ON write_int16 ON write_int32 ON write_int64 ON \
+        write_boolean OF write_unsigned_varint ON write_varint ON write_varlong ON \
         write_array_count OZ write_compact_array_count OZ \
-        write_bytes OB write_compact_bytes OB write_records OB write_string OB write_compact_string OB \
-        write_nullable_bytes OY write_nullable_string OY write_compact_nullable_string OY \
+        write_bytes OB write_nullable_bytes OY write_compact_bytes OB write_records OB \
+        write_string OB write_nullable_string OY write_compact_string OB write_compact_nullable_string OY \
         write_tagged_fields OBND \
         response_read VRRB response_read_whole VRRB response_read_answer VRRB \
         request_read VRB response_write OVBNNTNCD request_write OVBPPND agree C";

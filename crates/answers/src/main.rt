@@ -1,20 +1,25 @@
 // Answers questions about the library: a case a line on standard input, an answer a line on standard output. docs/ANSWERS.md says how both look.
 // What a case is parsed into, what is lent to a call and what is to be written are buffers of `main`, lent down.
-use cases::lent::cells_of;
-use cases::sink::bad;
-use cases::sink::flush;
-use cases::words::behind;
-use cases::words::between;
-use cases::words::find;
 use grammar::Found;
 use grammar::first;
+use lent::cells_of;
 use libc::STDIN_FILENO;
+use sink::bad;
+use sink::flush;
+use words::behind;
+use words::between;
+use words::find;
 
 mod calls_api_versions;
 mod calls_read;
 mod calls_written;
 mod grammar;
+mod lent;
+mod literals;
+mod pieces;
 mod replies;
+mod sink;
+mod words;
 
 // No line is longer. The buffer has room for one, and for more to read behind it.
 const LINE: usize = 262144;

@@ -1,125 +1,11 @@
-// What a call replied, in one form for all, and as words.
-use cases::lent;
-use cases::sink::bytes;
-use cases::sink::cells;
-use cases::sink::next_cell;
-use cases::sink::next_decimal;
-use cases::sink::put;
-use cases::sink::text;
-use fields::Count;
-use fields::Field;
-use fields::Nullable;
-use fields::Part;
-use primitives::Flag;
-use primitives::Integer;
-use primitives::Number;
+// What a call replied, as words.
+use crate::lent;
+use crate::sink::bytes;
+use crate::sink::cells;
+use crate::sink::next_decimal;
+use crate::sink::put;
+use crate::sink::text;
 use primitives::Refusal;
-use tags::Tagged;
-use writers::Written;
-
-// A refusal; or the bytes used or written, and what more there is: a cell, a number that is not negative, null, absent, a part of the message.
-pub enum Reply {
-    No(Refusal),
-    Only(usize),
-    Cell {
-        used: usize,
-        value: u64,
-    },
-    Number {
-        used: usize,
-        value: u64,
-    },
-    Null(usize),
-    Absent(usize),
-    Part {
-        used: usize,
-        start: usize,
-        len: usize,
-    },
-}
-
-// ---- from the replies of the library
-
-pub(crate) fn integer(r: Integer) -> Reply {
-    match r {
-        Integer::Took { value, used } => Reply::Cell {
-            used,
-            value: writers::write::cell(value),
-        },
-        Integer::Refused(e) => Reply::No(e),
-    }
-}
-
-pub(crate) fn number(r: Number) -> Reply {
-    match r {
-        Number::Took { value, used } => Reply::Number { used, value },
-        Number::Refused(e) => Reply::No(e),
-    }
-}
-
-// 1 or 0.
-pub(crate) fn bit(b: bool) -> u64 {
-    if b {
-        return 1;
-    }
-    0
-}
-
-pub(crate) fn flag(r: Flag) -> Reply {
-    match r {
-        Flag::Took { value, used } => Reply::Number {
-            used,
-            value: bit(value),
-        },
-        Flag::Refused(e) => Reply::No(e),
-    }
-}
-
-pub(crate) fn count(r: Count) -> Reply {
-    match r {
-        Count::Null { used } => Reply::Null(used),
-        Count::Took { count: value, used } => Reply::Number { used, value },
-        Count::Refused(e) => Reply::No(e),
-    }
-}
-
-pub(crate) fn part(r: Part) -> Reply {
-    match r {
-        Part::Took { start, len, used } => Reply::Part { used, start, len },
-        Part::Refused(e) => Reply::No(e),
-    }
-}
-
-fn field(f: Field, used: usize) -> Reply {
-    match f {
-        Field::Absent => Reply::Absent(used),
-        Field::Null => Reply::Null(used),
-        Field::Present { start, len } => Reply::Part { used, start, len },
-    }
-}
-
-pub(crate) fn nullable(r: Nullable) -> Reply {
-    match r {
-        Nullable::Took { field: f, used } => field(f, used),
-        Nullable::Refused(e) => Reply::No(e),
-    }
-}
-
-pub(crate) fn tagged(r: Tagged) -> Reply {
-    match r {
-        Tagged::Took { count: value, used } => Reply::Number { used, value },
-        Tagged::Refused(e) => Reply::No(e),
-    }
-}
-
-pub(crate) fn written(r: Written) -> Reply {
-    match r {
-        Written::Wrote(n) => Reply::Only(n),
-        Written::Refused(e) => Reply::No(e),
-    }
-}
-
-// ---- as words
 
 pub(crate) fn refused(out: &mut [u8], n: usize, e: Refusal) -> usize {
     let mut m = text(out, n, b"no");
@@ -139,47 +25,6 @@ pub(crate) fn shown(out: &mut [u8], n: usize, msg: &[u8], start: usize, len: usi
     let mut m = next_decimal(out, n, start as u64);
     m = put(out, m, b':');
     bytes(out, m, fields::read::part(msg, start, len))
-}
-
-// What stands behind `ok` and the bytes used.
-fn more(out: &mut [u8], n: usize, msg: &[u8], r: Reply) -> usize {
-    match r {
-        Reply::Cell { used: _, value } => next_cell(out, n, value),
-        Reply::Number { used: _, value } => next_decimal(out, n, value),
-        Reply::Null(_) => text(out, n, b" null"),
-        Reply::Absent(_) => text(out, n, b" absent"),
-        Reply::Part {
-            used: _,
-            start,
-            len,
-        } => shown(out, n, msg, start, len),
-        Reply::Only(_) => n,
-        Reply::No(_) => n,
-    }
-}
-
-fn used_of(r: Reply) -> usize {
-    match r {
-        Reply::Cell { used, value: _ } => used,
-        Reply::Number { used, value: _ } => used,
-        Reply::Null(used) => used,
-        Reply::Absent(used) => used,
-        Reply::Part {
-            used,
-            start: _,
-            len: _,
-        } => used,
-        Reply::Only(used) => used,
-        Reply::No(_) => 0,
-    }
-}
-
-pub(crate) fn said(out: &mut [u8], n: usize, msg: &[u8], r: Reply) -> usize {
-    if let Reply::No(e) = r {
-        return refused(out, n, e);
-    }
-    let m = ok(out, n, used_of(r));
-    more(out, m, msg, r)
 }
 
 // ---- what was lent

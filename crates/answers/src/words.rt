@@ -1,0 +1,96 @@
+// A line as words with one space between them.
+ghost use Prim.Native.Nat.{_≤_};
+ghost use lib.ListN.{length};
+
+// The bytes from one place up to another, and none where they are not all there.
+pub(crate) fn between(s: &[u8], from: usize, to: usize) -> &[u8] {
+    if s.len() < to {
+        return &s[s.len()..];
+    }
+    if to < from {
+        return &s[s.len()..];
+    }
+    &s[from..to]
+}
+
+// The place of the first such byte from a place on, or the end where there is none.
+pub(crate) fn find(s: &[u8], from: usize, b: u8) -> usize
+    ensures { λ r. ⌜ r ≤ length (now (s .entry)) ⌝ }
+{
+    let mut at = from;
+    while at < s.len() {
+        if s[at] == b {
+            return at;
+        }
+        at = at + 1;
+    }
+    s.len()
+}
+
+// The place behind one that was found, or the end.
+pub(crate) fn behind(s: &[u8], place: usize) -> usize {
+    if place < s.len() {
+        return place + 1;
+    }
+    s.len()
+}
+
+fn one_if_space(b: u8) -> usize
+    ensures { λ r. ⌜ r ≤ 1 ⌝ }
+{
+    if b == b' ' {
+        return 1;
+    }
+    0
+}
+
+// How many words follow the first: the number of spaces.
+pub(crate) fn given(line: &[u8]) -> usize {
+    let mut n: usize = 0;
+    let mut at: usize = 0;
+    while at < line.len() {
+        n = n + one_if_space(line[at]);
+        at = at + 1;
+    }
+    n
+}
+
+// The place of the k-th word, counted from 0; the end where there are fewer.
+fn place_of(line: &[u8], k: usize) -> usize {
+    let mut at: usize = 0;
+    let mut i: usize = 0;
+    while i < k {
+        at = behind(line, find(line, at, b' '));
+        i = i + 1;
+    }
+    at
+}
+
+// The k-th word, and an empty one where there are fewer.
+pub(crate) fn word(line: &[u8], k: usize) -> &[u8] {
+    let from = place_of(line, k);
+    between(line, from, find(line, from, b' '))
+}
+
+// Does the word begin so?
+pub(crate) fn begins(w: &[u8], name: &[u8]) -> bool {
+    if w.len() < name.len() {
+        return false;
+    }
+    let mut i: usize = 0;
+    while i < name.len() {
+        if w[i] != name[i] {
+            return false;
+        }
+        i = i + 1;
+    }
+    true
+}
+
+// Is it this word?
+pub(crate) fn is(w: &[u8], name: &[u8]) -> bool {
+    if w.len() != name.len() {
+        return false;
+    }
+    begins(w, name)
+}
