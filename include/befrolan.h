@@ -1,7 +1,9 @@
 /* Befrolan: bodies of Kafka messages, read from bytes and written to bytes. The C interface.
  *
  * The functions hold no state, allocate nothing and keep no pointer. Every answer is a struct of numbers.
- * Each function's promise, which the prover has checked, stands at its definition in crates/gateway/src.
+ * Each function's promise, which the prover has checked, stands at its definition: crates/gateway/src, and for the bodies
+ * of a message crates/gateway_api_versions/src. All of them are linked from target/staticlib/libbefrolan.a, which
+ * tools/staticlib makes.
  *
  * Slices. A slice is two parameters: a pointer, and how many elements there are. An empty slice has the length 0
  * and still a pointer that is not null and is aligned for its element. What is lent to be written to must not

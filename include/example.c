@@ -1,8 +1,8 @@
 /* Reads the ApiVersions response that a broker sent at version 0, agrees on versions, and writes the response back.
  * Exits with 1 where anything is not as it should be.
  *
- *     rt staticlib gateway
- *     gcc include/example.c target/staticlib/libgateway.a -o example && ./example
+ *     tools/staticlib
+ *     gcc include/example.c target/staticlib/libbefrolan.a -o example && ./example
  */
 #include "befrolan.h"
 

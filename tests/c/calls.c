@@ -3,8 +3,8 @@
  * 777 and bytes of a5, which also fill it before the call; what a call should not touch must still hold them.
  * Writes a line for each check that fails, and last how many there were; exits with 1 where any failed.
  *
- *     rt staticlib gateway
- *     gcc tests/c/calls.c target/staticlib/libgateway.a -o calls && ./calls
+ *     tools/staticlib
+ *     gcc tests/c/calls.c target/staticlib/libbefrolan.a -o calls && ./calls
  */
 #include "../../include/befrolan.h"
 

@@ -37,7 +37,7 @@ pub(crate) fn primitive(
     let room = first(given, 0) as usize;
     let null = !there(given, 1);
     lent::new_bytes(made, room);
-    let r = kinds::write::primitive(
+    let r = kinds_written::primitive(
         lent::bytes(made, room),
         kind_of(call),
         null,

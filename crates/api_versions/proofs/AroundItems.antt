@@ -21,10 +21,12 @@ use Rattle.rows.proofs.Steps.{give-took, then-no, then-took}
 use Rattle.tags.specs.Answers as Tags
 use Rattle.tags.specs.declared.Walked.{Walked}
 use Rattle.api_versions.specs.Answers.{ofThrottle}
-use Rattle.api_versions.specs.Shapes.{bodyShape, keyShape, tagsIf, tailShape}
-use Rattle.api_versions.specs.Walks.{Before, behindItems, finish, inTables, ofMeasured, ofTail, ofThrottled, rowsIs, throttle}
+use Rattle.api_versions_items.specs.Shapes.{keyShape, tagsIf}
+use Rattle.api_versions.specs.Shapes.{bodyShape, tailShape}
+use Rattle.api_versions_items.specs.Walks.{inTables, rowsIs}
+use Rattle.api_versions.specs.Walks.{Before, behindItems, finish, ofMeasured, ofTail, ofThrottled, throttle}
 use Rattle.api_versions.specs.declared.Throttle.{Throttle}
-use Rattle.api_versions.specs.declared.items.Rows.{Rows}
+use Rattle.api_versions_items.specs.declared.Rows.{Rows}
 use Rattle.api_versions.specs.declared.response.Tail.{Tail}
 use Rattle.api_versions.specs.declared.response.Throttled.{Throttled}
 use Rattle.api_versions.specs.declared.response.Measured.{Measured}

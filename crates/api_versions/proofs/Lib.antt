@@ -1,7 +1,3 @@
--- an item into the tables
-pub mod ItemRows
--- a turn of the loop over items
-pub mod ItemTurns
 -- throttle time, own tags, and the whole body
 pub mod AroundItems
 -- the whole reply of a read

@@ -27,7 +27,8 @@ use Rattle.rows.proofs.Close.{slices}
 use Rattle.rows.proofs.OneTable.{nil}
 use Rattle.rows.proofs.Reply.{answers-fits, answers-left, answers-long, answers-needs, answers-no, short}
 use Rattle.api_versions.specs.Answers.{ofResponse}
-use Rattle.api_versions.specs.Shapes.{bodyShape, keyShape, responseShape, tagsIf, tailShape}
+use Rattle.api_versions_items.specs.Shapes.{keyShape, tagsIf}
+use Rattle.api_versions.specs.Shapes.{bodyShape, responseShape, tailShape}
 use Rattle.api_versions.specs.Walks.{isLeft, ofMeasured}
 use Rattle.api_versions.specs.declared.ResponseBody.{ResponseBody}
 use Rattle.api_versions.specs.declared.response.Measured.{Measured}

@@ -5,29 +5,12 @@ use Prim.Native.Nat.{ℕ}
 use lib.Dec.{ltb}
 use Rattle.layout.specs.Reading.{Reader, Res, bad, give, ok, then}
 use Rattle.layout.specs.Primitives.{cell, w32}
-use Rattle.layout.specs.Rows.{Value}
-use Rattle.layout.specs.Tables.{Span}
 use Rattle.primitives.specs.Answers.{ofRefusal}
 use Rattle.rows.specs.Store.{State, Tab, own, tab}
 use Rattle.api_versions.specs.Answers.{ofResponse, ofThrottle}
-use Rattle.api_versions.specs.Shapes.{keyFront}
-use Rattle.api_versions.specs.declared.items.Key.{Key}
-use Rattle.api_versions.specs.declared.items.Rows.{Rows}
 use Rattle.api_versions.specs.declared.response.Tail.{Tail}
 use Rattle.api_versions.specs.declared.response.Throttled.{Throttled}
 use Rattle.api_versions.specs.declared.response.Measured.{Measured}
-
-abbrev pub ofKey : Key → Res (Value Span keyFront)
-ofKey (Key.Took a b c n) = ok (a, (b, (c, tt))) n
-ofKey (Key.Refused e) = bad (ofRefusal e)
-
--- the tables of a walk over items: whether it is a whole read, and the own row, may be anything
-abbrev pub inTables : List ℕ → ℕ → List ℕ → ℕ → Bool × List ℕ → State
-inTables is i ts t e = own (e .1) ∷ tab is i ∷ tab ts t ∷ []
-
-abbrev pub rowsIs : List ℕ → List ℕ → Rows → Bool × List ℕ → Res State
-rowsIs is ts (Rows.Took n i t) e = ok (inTables is i ts t e) n
-rowsIs is ts (Rows.Refused c) e = bad (ofRefusal c)
 
 -- the cells of the throttle time, where the version has one
 unfoldable pub throttle : Bool → Reader (List ℕ)

@@ -2,7 +2,6 @@
 // Numbers are cells, as in the tables: 64 bits, two's complement.
 use primitives::Refusal;
 
-pub mod items;
 pub mod response;
 
 // The throttle time: version 0 lacks it, and a writer may leave it unset.

@@ -15,9 +15,9 @@ ghost use Rattle.api_versions.specs.Walks.{behindItems, finish, isLeft, 
 use crate::ResponseBody;
 use crate::ResponseReply;
 use crate::Throttle;
-use crate::items::Rows;
-use crate::items::items_in;
-use crate::items::tags_if;
+use api_versions_items::Rows;
+use api_versions_items::items_in;
+use api_versions_items::tags_if;
 use places::int16_at;
 use places::int32_at;
 use places::items_at;

@@ -16,7 +16,8 @@ use Rattle.rows.proofs.Times.{times-many}
 use Rattle.tags_written.proofs.Meaning.{Cells, cells-drop, meaning, tags-clean, tags-end}
 use Rattle.put.specs.Put.{sizeOf}
 use Rattle.layout.specs.Rows as Rows
-use Rattle.api_versions.specs.Shapes.{itemShape, tagsShape, throttleShape}
+use Rattle.api_versions_items.specs.Shapes.{tagsShape}
+use Rattle.api_versions.specs.Shapes.{itemShape, throttleShape}
 use Rattle.api_versions_written.specs.Responses.{endBytes, formOf, rowHolds, tagCells, tagsPart, throttleBytes, throttleHolds, told}
 use Rattle.api_versions_written.proofs.Items.{item-value, itemMeant, taken}
 

@@ -27,7 +27,8 @@ use Rattle.api_versions.specs.Answers.{ofThrottle}
 use Rattle.api_versions.specs.declared.Throttle.{Throttle}
 use Rattle.layout.specs.Rows as Rows
 use Rattle.api_versions.proofs.Replies.{shape-is}
-use Rattle.api_versions.specs.Shapes.{itemShape, responseShape, tagsShape, throttleShape}
+use Rattle.api_versions_items.specs.Shapes.{tagsShape}
+use Rattle.api_versions.specs.Shapes.{itemShape, responseShape, throttleShape}
 use Rattle.api_versions_written.specs.Responses.{arrayBytes, endBytes, formOf, itemsBytes, ownFrom, responseBytes, responseFault, responseGood, responseHolds, restBytes, rowHolds, tagsPart, throttleHolds, throttleOf, told, toldGood}
 use Rattle.primitives.specs.Answers.{versionOf}
 use Rattle.primitives.proofs.Versions.{known}

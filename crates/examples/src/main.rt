@@ -65,7 +65,7 @@ fn integer(r: Integer) {
     match r {
         Integer::Took { value, used: n } => {
             let mut out = [0u8; 8];
-            let w = writers::write::int64(&mut out, value);
+            let w = write_numbers::int64(&mut out, value);
             wrote(&out, w);
             used(n);
         }
@@ -185,10 +185,10 @@ fn unsigned_varints() {
     let mut i: usize = 0;
     while i < ends.len() {
         let mut out = [0u8; 10];
-        let r = writers::write::unsigned_varint(&mut out, ends[i]);
+        let r = write_numbers::unsigned_varint(&mut out, ends[i]);
         wrote(&out, r);
         say(b"\n");
-        number(primitives::read::unsigned_varint(&out));
+        number(read_numbers::unsigned_varint(&out));
         i = i + 1;
     }
 }
@@ -213,10 +213,10 @@ fn varints() {
     let mut i: usize = 0;
     while i < ends.len() {
         let mut out = [0u8; 10];
-        let r = writers::write::varint(&mut out, ends[i]);
+        let r = write_numbers::varint(&mut out, ends[i]);
         wrote(&out, r);
         say(b"\n");
-        integer(primitives::read::varint(&out));
+        integer(read_numbers::varint(&out));
         i = i + 1;
     }
 }
@@ -235,10 +235,10 @@ fn varlongs() {
     let mut i: usize = 0;
     while i < ends.len() {
         let mut out = [0u8; 10];
-        let r = writers::write::varlong(&mut out, ends[i]);
+        let r = write_numbers::varlong(&mut out, ends[i]);
         wrote(&out, r);
         say(b"\n");
-        integer(primitives::read::varlong(&out));
+        integer(read_numbers::varlong(&out));
         i = i + 1;
     }
 }
@@ -246,15 +246,15 @@ fn varlongs() {
 // ---- the examples of the rules
 
 fn texts() {
-    part(fields::read::string(&[0, 4, 0xF4, 0x8F, 0xBF, 0xBF]));
-    part(fields::read::string(&[0, 4, 0xF4, 0x90, 0x80, 0x80]));
-    part(fields::read::string(&[0, 2, 0xC0, 0x80]));
-    part(fields::read::string(&[0, 3, 0xED, 0xA0, 0x80]));
+    part(read_fields::string(&[0, 4, 0xF4, 0x8F, 0xBF, 0xBF]));
+    part(read_fields::string(&[0, 4, 0xF4, 0x90, 0x80, 0x80]));
+    part(read_fields::string(&[0, 2, 0xC0, 0x80]));
+    part(read_fields::string(&[0, 3, 0xED, 0xA0, 0x80]));
 }
 
 fn written(text: &[u8]) {
     let mut out = [0u8; 6];
-    let r = writers::write::string(&mut out, text);
+    let r = write_fields::string(&mut out, text);
     wrote(&out, r);
     say(b"\n");
 }
@@ -283,21 +283,21 @@ fn size(r: Written) {
 fn long_texts() {
     let text = [b'a'; 32768];
     let mut out = io::large_buffer();
-    size(writers::write::string(&mut out, &text[..32767]));
-    part(fields::read::string(&out));
-    size(writers::write::string(&mut out, &text));
-    size(writers::write::nullable_string(&mut out, false, &text));
-    size(writers::write::compact_string(&mut out, &text));
+    size(write_fields::string(&mut out, &text[..32767]));
+    part(read_fields::string(&out));
+    size(write_fields::string(&mut out, &text));
+    size(write_fields::nullable_string(&mut out, false, &text));
+    size(write_fields::compact_string(&mut out, &text));
 }
 
 fn lengths() {
-    nullable(fields::read::nullable_string(&[0xFF, 0xFF]));
-    nullable(fields::read::nullable_string(&[0xFF, 0xFE]));
-    part(fields::read::compact_string(&[0]));
-    part(fields::read::compact_string(&[1]));
-    nullable(fields::read::compact_nullable_string(&[0]));
-    part(fields::read::compact_bytes(&[0]));
-    part(fields::read::records(&[0xFF, 0xFF, 0xFF, 0xFF]));
+    nullable(read_fields::nullable_string(&[0xFF, 0xFF]));
+    nullable(read_fields::nullable_string(&[0xFF, 0xFE]));
+    part(read_fields::compact_string(&[0]));
+    part(read_fields::compact_string(&[1]));
+    nullable(read_fields::compact_nullable_string(&[0]));
+    part(read_fields::compact_bytes(&[0]));
+    part(read_fields::records(&[0xFF, 0xFF, 0xFF, 0xFF]));
 }
 
 fn tagged(r: Tagged) {
@@ -356,27 +356,27 @@ fn written_tags() {
 }
 
 fn no_numbers(msg: &[u8]) {
-    integer(primitives::read::int8(msg));
-    integer(primitives::read::int16(msg));
-    integer(primitives::read::int32(msg));
-    integer(primitives::read::int64(msg));
-    flag(primitives::read::boolean(msg));
-    number(primitives::read::unsigned_varint(msg));
-    integer(primitives::read::varint(msg));
-    integer(primitives::read::varlong(msg));
+    integer(read_numbers::int8(msg));
+    integer(read_numbers::int16(msg));
+    integer(read_numbers::int32(msg));
+    integer(read_numbers::int64(msg));
+    flag(read_numbers::boolean(msg));
+    number(read_numbers::unsigned_varint(msg));
+    integer(read_numbers::varint(msg));
+    integer(read_numbers::varlong(msg));
 }
 
 fn no_fields(msg: &[u8]) {
-    count(fields::read::array_count(msg));
-    count(fields::read::compact_array_count(msg));
-    part(fields::read::bytes(msg));
-    nullable(fields::read::nullable_bytes(msg));
-    part(fields::read::compact_bytes(msg));
-    part(fields::read::records(msg));
-    part(fields::read::string(msg));
-    nullable(fields::read::nullable_string(msg));
-    part(fields::read::compact_string(msg));
-    nullable(fields::read::compact_nullable_string(msg));
+    count(read_fields::array_count(msg));
+    count(read_fields::compact_array_count(msg));
+    part(read_fields::bytes(msg));
+    nullable(read_fields::nullable_bytes(msg));
+    part(read_fields::compact_bytes(msg));
+    part(read_fields::records(msg));
+    part(read_fields::string(msg));
+    nullable(read_fields::nullable_string(msg));
+    part(read_fields::compact_string(msg));
+    nullable(read_fields::compact_nullable_string(msg));
 }
 
 fn main() {

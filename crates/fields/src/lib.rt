@@ -1,5 +1,6 @@
 // Lengths and counts, data and texts, read: data and texts are shown as parts of the message.
-// `counts`, `parts` and `texts` read at the front of what is left of a message; `read` has the calls, which judge the message's size first.
+// `counts`, `parts` and `texts` read at the front of what is left of a message, and `read` hands out a part.
+// The calls on a field by itself, which judge the message's size first, are the crate `read_fields`.
 use primitives::Refusal;
 
 pub mod counts;

@@ -6,19 +6,11 @@ use lib.IntN.{ℤ}
 use Rattle.layout.specs.Tables.{Tables}
 use Rattle.gateway.specs.declared.Numbers.{Numbers}
 use Rattle.gateway.specs.declared.PrimitiveNumbers.{PrimitiveNumbers}
-use Rattle.gateway.specs.declared.RequestNumbers.{RequestNumbers}
-use Rattle.gateway.specs.declared.ResponseNumbers.{ResponseNumbers}
 use Rattle.gateway.specs.declared.TagsNumbers.{TagsNumbers}
 
 -- each promise is an equation: what an entry point hands back and leaves is what the definition gives
 pub unique : {R : Type 0} (o x y : R) → x ≡ o → y ≡ o → x ≡ y
 unique o x y h k = h ∙ sym k
-
-pub response-unique : (o x y : ResponseNumbers × Tables) → x ≡ o → y ≡ o → x ≡ y
-response-unique = unique
-
-pub request-unique : (o x y : RequestNumbers × Tables) → x ≡ o → y ≡ o → x ≡ y
-request-unique = unique
 
 pub tags-unique : (o x y : TagsNumbers × Tables) → x ≡ o → y ≡ o → x ≡ y
 tags-unique = unique
@@ -26,7 +18,7 @@ tags-unique = unique
 pub primitive-unique : (o x y : PrimitiveNumbers) → x ≡ o → y ≡ o → x ≡ y
 primitive-unique = unique
 
--- all four writers
+-- all writers
 pub written-unique : (o x y : Numbers × List ℕ) → x ≡ o → y ≡ o → x ≡ y
 written-unique = unique
 

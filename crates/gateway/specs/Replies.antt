@@ -1,7 +1,7 @@
 -- What the entry points hand back: for each answer of the definitions (layout/specs/Answers.antt) the numbers of the struct.
 -- An acceptance has the number 0; a refusal tells its number, place and need, and every other number is 0. Assumes nothing.
-use mathlib.Core.List.{List, [], _∷_, _++_, map}
-use Prim.Native.Nat.{ℕ, zero, suc}
+use mathlib.Core.List.{List, map}
+use Prim.Native.Nat.{ℕ}
 use lib.IntN.{ℤ}
 use lib.ListN.{getD}
 use Rattle.layout.specs.Answers.{Answer, accepted, refused}
@@ -11,8 +11,6 @@ use Rattle.layout.specs.Write.{each}
 use Rattle.gateway.specs.declared.Numbers.{Numbers}
 use Rattle.gateway.specs.declared.TagsNumbers.{TagsNumbers}
 use Rattle.gateway.specs.declared.PrimitiveNumbers.{PrimitiveNumbers}
-use Rattle.gateway.specs.declared.ResponseNumbers.{ResponseNumbers}
-use Rattle.gateway.specs.declared.RequestNumbers.{RequestNumbers}
 
 -- the answer as numbers, and the tables or the output as they are
 unfoldable pub told : {N A : Type 0} → (Answer → N) → Answer × A → N × A
@@ -31,34 +29,6 @@ tagsNumbers (refused e) = record { number = e .number; place = e .place; need = 
 abbrev pub primitiveNumbers : Answer → PrimitiveNumbers
 primitiveNumbers (accepted cs n) = record { number = 0; place = 0; need = 0; used = n; form = getD cs 0 0; value = getD cs 1 0; length = getD cs 2 0 }
 primitiveNumbers (refused e) = record { number = e .number; place = e .place; need = e .need; used = 0; form = 0; value = 0; length = 0 }
-
--- the own row is error, number of items, throttle time (kind, number), number of tags
-abbrev pub responseNumbers : Answer → ResponseNumbers
-responseNumbers (accepted cs n) = record { number = 0; place = 0; need = 0; used = n; error = getD cs 0 0; items = getD cs 1 0; kind = getD cs 2 0; throttle = getD cs 3 0; tags = getD cs 4 0 }
-responseNumbers (refused e) = record { number = e .number; place = e .place; need = e .need; used = 0; error = 0; items = 0; kind = 0; throttle = 0; tags = 0 }
-
--- the own row is name (kind, start, length), version (kind, start, length), number of tags
-abbrev pub requestNumbers : Answer → RequestNumbers
-requestNumbers (accepted cs n) =
-    record { number = 0; place = 0; need = 0; used = n; named = getD cs 0 0; nstart = getD cs 1 0; nlength = getD cs 2 0; versioned = getD cs 3 0; vstart = getD cs 4 0; vlength = getD cs 5 0; tags = getD cs 6 0 }
-requestNumbers (refused e) =
-    record { number = e .number; place = e .place; need = e .need; used = 0; named = 0; nstart = 0; nlength = 0; versioned = 0; vstart = 0; vlength = 0; tags = 0 }
-
--- ---- rows that a caller lends: of what may be unset the kind 0 is unset, and any other present
-
-unfoldable pub throttleRow : ℕ → ℕ → List ℕ
-throttleRow zero n = 0 ∷ 0 ∷ []
-throttleRow (suc k) n = 2 ∷ n ∷ []
-
-unfoldable pub responseRow : List ℕ → List ℕ
-responseRow cs = getD cs 0 0 ∷ getD cs 1 0 ∷ (throttleRow (getD cs 2 0) (getD cs 3 0) ++ (getD cs 4 0 ∷ []))
-
-unfoldable pub textRow : ℕ → ℕ → ℕ → List ℕ
-textRow zero start n = 0 ∷ 0 ∷ 0 ∷ []
-textRow (suc k) start n = 2 ∷ start ∷ n ∷ []
-
-unfoldable pub requestRow : List ℕ → List ℕ
-requestRow cs = textRow (getD cs 0 0) (getD cs 1 0) (getD cs 2 0) ++ (textRow (getD cs 3 0) (getD cs 4 0) (getD cs 5 0) ++ (getD cs 6 0 ∷ []))
 
 -- ---- agreement: row behind row, each cell as its signed number
 

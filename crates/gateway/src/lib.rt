@@ -1,4 +1,4 @@
-// The C interface: the library's calls with numbers and slices alone, and each answer as a struct of numbers.
+// The C interface: the library's calls with numbers and slices alone, and each answer as a struct of numbers. Bodies have crates of their own, as `gateway_api_versions`.
 // A cell is 64 bits, two's complement. Where a struct says `number` 0 the call accepted, and `place` and `need` are 0;
 // else it refused with that number of docs/RULES.md, section 10, at that place, and every other field is 0.
 ghost use mathlib.Core.Path.{_≡_};
@@ -7,8 +7,6 @@ ghost use Rattle.gateway.specs.Replies.{numbers};
 use writers::Written;
 
 pub mod primitive;
-pub mod request;
-pub mod response;
 pub mod tagged;
 pub mod versions;
 
@@ -43,38 +41,8 @@ pub struct PrimitiveNumbers {
     pub length: u64,
 }
 
-// An ApiVersions response: `kind` is 0 where there is no throttle time and 2 where there is one; `tags` is the cell of -1 where they are absent.
-#[repr(C)]
-pub struct ResponseNumbers {
-    pub number: u64,
-    pub place: u64,
-    pub need: u64,
-    pub used: u64,
-    pub error: u64,
-    pub items: u64,
-    pub kind: u64,
-    pub throttle: u64,
-    pub tags: u64,
-}
-
-// An ApiVersions request: of the client's name and of its version a kind, 0 where it is absent and 2 where it is a part of the message, start and length.
-#[repr(C)]
-pub struct RequestNumbers {
-    pub number: u64,
-    pub place: u64,
-    pub need: u64,
-    pub used: u64,
-    pub named: u64,
-    pub nstart: u64,
-    pub nlength: u64,
-    pub versioned: u64,
-    pub vstart: u64,
-    pub vlength: u64,
-    pub tags: u64,
-}
-
 // What a writer answers, as numbers.
-fn written(w: Written) -> Numbers
+pub fn written(w: Written) -> Numbers
     ensures { λ r. ⌜ r ≡ numbers (ofWritten w) ⌝ }
 {
     match w {

@@ -8,7 +8,7 @@ use crate::written;
 use kinds::Reply;
 use kinds::is_set;
 use kinds::read;
-use kinds::write;
+use kinds_written as write;
 
 // What a reader answers, as numbers.
 fn reply(r: Reply) -> PrimitiveNumbers

@@ -1,6 +1,6 @@
 -- a Boolean as a number
 pub mod Set
--- from what the reader or the writer of a kind promises to the answer by kind
+-- from what the reader of a kind promises to the answer by kind
 pub mod ByKind
 -- a promise determines the reply
 pub mod Unique

@@ -1,4 +1,4 @@
--- The promise of `read::primitive` determines the reply. That of `write::primitive` does by `written-unique` of `writers`.
+-- The promise of `read::primitive` determines the reply. That of `kinds_written` does by `written-unique` of `writers`.
 use mathlib.Core.Path.{_≡_, refl}
 use lib.ListN.{getD}
 use Rattle.layout.specs.Answers.{Answer, accepted, refused}

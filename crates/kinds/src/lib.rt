@@ -1,10 +1,10 @@
-// Primitives by the number of their kind, as a caller that has only numbers asks for them. `read` and `write` have a call each.
+// Primitives by the number of their kind, as a caller that has only numbers asks for them: the kinds, and the call that reads one.
+// The call that writes one is the crate `kinds_written`.
 ghost use mathlib.Core.Path.{_≡_};
 ghost use Rattle.kinds.specs.Kinds.{isSet};
 use primitives::Refusal;
 
 pub mod read;
-pub mod write;
 
 // A primitive that was read. `form` is 2 for a value and 1 for null; `value` is the cell of a number, a count, or the start of a part of the message;
 // `length` is that of a part.

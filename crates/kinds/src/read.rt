@@ -10,13 +10,13 @@ use fields::Count;
 use fields::Field;
 use fields::Nullable;
 use fields::Part;
-use fields::read as field;
 use primitives::Flag;
 use primitives::Integer;
 use primitives::NO_VERSION;
 use primitives::Number;
 use primitives::at;
-use primitives::read as number;
+use read_fields as field;
+use read_numbers as number;
 use writers::write::cell;
 
 // ---- what the readers of the kinds answer

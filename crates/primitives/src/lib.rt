@@ -1,5 +1,5 @@
-// Kafka's numbers, read; and what all calls share: the size that is taken, and refusals.
-// `numbers` reads at the front of what is left of a message; `read` has the calls, which judge the message's size too.
+// Kafka's numbers at the front of what is left of a message (`numbers`); and what all calls share: the size that is taken, and refusals.
+// The calls on a number by itself, which judge the message's size too, are the crate `read_numbers`.
 ghost use mathlib.Core.Path.{_≡_};
 ghost use Rattle.layout.specs.Reading.{because};
 ghost use Rattle.primitives.specs.Answers.{noRoom, ofRefusal, versionOf};

@@ -1,17 +1,16 @@
--- The cell of a number, its zigzag, and the width that holds it.
+-- The cell of a number, and the width that holds it.
 use mathlib.Core.Bool.{false, true}
-use mathlib.Core.Path.{_∙_, _≡_, ap, refl, subst, sym}
-use Prim.Native.Nat.{_*_, _+_, _-_, _<_, _^_, _≤_, suc, ℕ}
+use mathlib.Core.Path.{_≡_, ap, refl, subst, sym}
+use Prim.Native.Nat.{_-_, _<_, _^_, _≤_, suc, ℕ}
 use native.Mathlib.Decide.{decLt}
 use native.Mathlib.Omega.{arith}
 use lib.Dec.{T, leb·zero, ltb}
 use lib.IntN.{_-ℤ_, natAbs, negsuc, pos, ℤ}
 use lib.Signed.{leZ, nonNeg}
-use mir.Facts.{toZ-ofZ}
 use mir.Syntax.{w64}
-use mir.Val.{Fits, SFits, ofZ, toZ}
+use mir.Val.{Fits, SFits}
 use borrow.Author.Tests.{le-ltb}
-use Rattle.layout.specs.Primitives.{cellOf, zigzag}
+use Rattle.layout.specs.Primitives.{cellOf}
 use Rattle.layout.proofs.Tests.{le-false, le-true, lt-false, lt-true}
 use Rattle.writers.specs.Answers.{within}
 
@@ -39,20 +38,6 @@ minus (negsuc n) h e = subst (Minus (negsuc n)) (sym less-one) (record { narrow 
   where
     less-one : negsuc 0 -ℤ negsuc n ≡ pos n
     less-one = rw (le-ltb (suc n) 1 (omega arith)) (ap pos (omega arith))
-
--- the same cell, of a number that came through its 64 bits
-pub cell-back : (z : ℤ) (c : ℕ) → SFits w64 z → c ≡ cellOf (toZ w64 (ofZ w64 z)) → c ≡ cellOf z
-cell-back z c h e = e ∙ ap cellOf (toZ-ofZ h)
-
-pub zigzag-low : (z : ℤ) (c : ℕ) → SFits w64 z → c ≡ cellOf z → c < 2 ^ 63 → c * 2 ≡ zigzag z
-unfolding zigzag
-zigzag-low (pos n) c h e l = omega arith
-zigzag-low (negsuc n) c h e l = absurd (omega arith)
-
-pub zigzag-high : (z : ℤ) (c : ℕ) → SFits w64 z → c ≡ cellOf z → 2 ^ 63 ≤ c → (18446744073709551615 - c) * 2 + 1 ≡ zigzag z
-unfolding zigzag
-zigzag-high (pos n) c h e l = absurd (omega arith)
-zigzag-high (negsuc n) c h e l = omega arith
 
 -- a cell that holds a small number: from 0 on, or below 0
 module _ (half c : ℕ) where

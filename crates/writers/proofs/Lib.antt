@@ -1,11 +1,9 @@
 -- Laws that the functions' proofs cite, one over each thing that varies.
 
--- the cell of a number, its zigzag, and the width that holds it
+-- the cell of a number, and the width that holds it
 pub mod Carried
--- a primitive written by a call of its own
+-- a primitive written by a call of its own: the answer where its bytes were put, or where it is too wide
 pub mod Answered
--- a length, a count or what stands behind a length written by a call of its own
-pub mod Judged
 -- a body: a refusal, or its bytes
 pub mod Answer
 -- one walk, run twice: measured, and then written

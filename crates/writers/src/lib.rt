@@ -1,5 +1,5 @@
-// Kafka's primitive types, written.
-// `write` has the calls, which judge what they are given before a byte is put.
+// What a call that writes answers, and what all of them share.
+// The calls on a primitive by itself, which judge what they are given before a byte is put, are the crates `write_numbers` and `write_fields`.
 use primitives::Refusal;
 
 pub mod write;

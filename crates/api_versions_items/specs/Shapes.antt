@@ -1,0 +1,23 @@
+-- The layout of a response's items at a version, by what sets the versions apart: f, whether it is flexible (3).
+-- Laws about values go into these shapes; what code promises names them shut, below.
+use mathlib.Core.Bool.{Bool, false, true}
+use Prim.Native.Nat.{ℕ}
+use Rattle.layout.specs.Primitives.{plain, w16}
+use Rattle.layout.specs.Rows.{Shape, absent, array, blob, end, field, lacking, natural, number}
+
+-- tagged fields, to table t
+abbrev pub tagsShape : Bool → ℕ → Shape
+tagsShape true t = array plain t (field natural (field (blob plain) end)) end
+tagsShape false t = lacking plain t (absent natural (absent (blob plain) end)) end
+
+-- the numbers of an item: key, minimum, maximum
+abbrev pub keyFront : Shape
+keyFront = field (number w16) (field (number w16) (field (number w16) end))
+
+-- ---- shut
+
+unfoldable pub tagsIf : Bool → ℕ → Shape
+tagsIf f t = tagsShape f t
+
+unfoldable pub keyShape : Bool → Shape
+keyShape f = field (number w16) (field (number w16) (field (number w16) (tagsIf f 2)))

@@ -1,0 +1,24 @@
+-- What the walks over items say in the definition's words. Table 0 is the body's own row, 1 the items, 2 the tags.
+use mathlib.Core.Bool.{Bool}
+use mathlib.Core.List.{List, [], _∷_}
+use Prim.Native.Nat.{ℕ}
+use Rattle.layout.specs.Reading.{Res, bad, ok}
+use Rattle.layout.specs.Rows.{Value}
+use Rattle.layout.specs.Tables.{Span}
+use Rattle.primitives.specs.Answers.{ofRefusal}
+use Rattle.rows.specs.Store.{State, own, tab}
+use Rattle.api_versions_items.specs.Shapes.{keyFront}
+use Rattle.api_versions_items.specs.declared.Key.{Key}
+use Rattle.api_versions_items.specs.declared.Rows.{Rows}
+
+abbrev pub ofKey : Key → Res (Value Span keyFront)
+ofKey (Key.Took a b c n) = ok (a, (b, (c, tt))) n
+ofKey (Key.Refused e) = bad (ofRefusal e)
+
+-- the tables of a walk over items: whether it is a whole read, and the own row, may be anything
+abbrev pub inTables : List ℕ → ℕ → List ℕ → ℕ → Bool × List ℕ → State
+inTables is i ts t e = own (e .1) ∷ tab is i ∷ tab ts t ∷ []
+
+abbrev pub rowsIs : List ℕ → List ℕ → Rows → Bool × List ℕ → Res State
+rowsIs is ts (Rows.Took n i t) e = ok (inTables is i ts t e) n
+rowsIs is ts (Rows.Refused c) e = bad (ofRefusal c)

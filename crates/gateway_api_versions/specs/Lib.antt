@@ -1,0 +1,2 @@
+-- the structs of numbers, for each answer of the definitions; and the rows that are lent
+pub mod Replies

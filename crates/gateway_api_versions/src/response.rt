@@ -1,0 +1,119 @@
+// ApiVersions responses: a body's own row is error, number of items, throttle time (kind, number) and number of tags.
+ghost use mathlib.Core.Path.{_≡_};
+ghost use mathlib.Core.List.{[], _∷_};
+ghost use Rattle.layout.specs.Answers.{accepted, readAnswer, writeAnswer};
+ghost use Rattle.layout.specs.Messages.ApiVersions as Api;
+ghost use Rattle.api_versions.specs.Answers.{ofResponse, ofResponseReply, ofThrottle};
+ghost use Rattle.kinds.specs.Kinds.{isSet};
+ghost use Rattle.gateway.specs.Replies.{numbers, told};
+ghost use Rattle.gateway_api_versions.specs.Replies.{responseNumbers, responseRow, throttleRow};
+use crate::ResponseNumbers;
+use api_versions::ResponseBody;
+use api_versions::ResponseReply;
+use api_versions::Throttle;
+use api_versions::response;
+use api_versions_written::response as writing;
+use gateway::Numbers;
+use gateway::written;
+
+// A body that was read, whose throttle time is of that kind.
+fn with_throttle(body: ResponseBody, used: usize, kind: u64, throttle: u64) -> ResponseNumbers
+    ensures { λ r. ⌜ r ≡ responseNumbers (accepted (body .error ∷ body .items ∷ kind ∷ throttle ∷ body .tags ∷ []) used) ⌝ }
+{
+    ResponseNumbers {
+        number: 0,
+        place: 0,
+        need: 0,
+        used: used as u64,
+        error: body.error,
+        items: body.items,
+        kind,
+        throttle,
+        tags: body.tags,
+    }
+}
+
+fn accepted(body: ResponseBody, used: usize) -> ResponseNumbers
+    ensures { λ r. ⌜ r ≡ responseNumbers (accepted (ofResponse body) used) ⌝ }
+{
+    let throttle = body.throttle;
+    match throttle {
+        Throttle::Absent => with_throttle(body, used, 0, 0),
+        Throttle::Present(n) => with_throttle(body, used, 2, n),
+    }
+}
+
+// What a reader answers, as numbers.
+fn reply(r: ResponseReply) -> ResponseNumbers
+    ensures { λ n. ⌜ n ≡ responseNumbers (ofResponseReply r) ⌝ }
+{
+    match r {
+        ResponseReply::Took { body, used } => accepted(body, used),
+        ResponseReply::Refused(e) => ResponseNumbers {
+            number: e.number as u64,
+            place: e.place as u64,
+            need: e.need as u64,
+            used: 0,
+            error: 0,
+            items: 0,
+            kind: 0,
+            throttle: 0,
+            tags: 0,
+        },
+    }
+}
+
+// A prefix read where `whole` is 0, else a whole one.
+#[no_mangle]
+pub extern "C" fn befrolan_read_api_versions_response(
+    msg: &[u8],
+    version: i16,
+    whole: u64,
+    items: &mut [u64],
+    tags: &mut [u64],
+) -> ResponseNumbers
+    ensures { λ r. ⌜ (r, now (items .exit) ∷ now (tags .exit) ∷ []) ≡ told responseNumbers (readAnswer (isSet whole) Api.response version (now (items .entry) ∷ now (tags .entry) ∷ []) (now (msg .entry))) ⌝ }
+{
+    if whole == 0 {
+        return reply(response::read(msg, version, items, tags));
+    }
+    reply(response::read_whole(msg, version, items, tags))
+}
+
+// ---- written
+
+// Kind 0 is unset, any other present.
+fn throttle_of(kind: u64, n: u64) -> Throttle
+    ensures { λ r. ⌜ ofThrottle r ≡ throttleRow kind n ⌝ }
+{
+    if kind == 0 {
+        return Throttle::Absent;
+    }
+    Throttle::Present(n)
+}
+
+fn body_of(row: &[u64; 5]) -> ResponseBody
+    ensures { λ r. ⌜ ofResponse r ≡ responseRow (now (row .entry)) ⌝ }
+{
+    ResponseBody {
+        error: row[0],
+        items: row[1],
+        throttle: throttle_of(row[2], row[3]),
+        tags: row[4],
+    }
+}
+
+// `body` is the own row; `items` and `tags` are the tables; data are parts of `lent`.
+#[no_mangle]
+pub extern "C" fn befrolan_write_api_versions_response(
+    out: &mut [u8],
+    version: i16,
+    lent: &[u8],
+    body: &[u64; 5],
+    items: &[u64],
+    tags: &[u64],
+) -> Numbers
+    ensures { λ r. ⌜ (r, now (out .exit)) ≡ told numbers (writeAnswer Api.response version (now (lent .entry)) (responseRow (now (body .entry)) ∷ now (items .entry) ∷ now (tags .entry) ∷ []) (now (out .entry))) ⌝ }
+{
+    written(writing::write(out, version, lent, body_of(body), items, tags))
+}

@@ -1,0 +1,2 @@
+-- from what the writer of a kind promises to the answer by kind
+pub mod ByKind

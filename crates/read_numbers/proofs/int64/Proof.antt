@@ -1,0 +1,18 @@
+-- The step's cell is what the call shows.
+use Rattle.layout.specs.Primitives.{w64}
+use Rattle.primitives.proofs.Alone.{integer-is}
+use borrow.Author.Needs.{needs}
+use Rattle.read_numbers.proofs.int64.Statement.{statement}
+use Rattle.read_numbers.proofs.int64.Tie as tie
+
+int64-requires : tie.Need-int64-requires
+int64-requires c κs = search needs
+
+integer-requires : tie.Need-integer-requires
+integer-requires c κs = search needs
+
+returns : tie.Need-returns
+returns c = integer-is w64 _ (c .before .int64 .result) _ (c .before .before .shared-slice-known .given) (c .before .int64 .ensures) (c .integer .ensures)
+
+pub int64-spec : {M : Type 1} → statement M
+int64-spec = tie.close (tie.spec int64-requires integer-requires returns)

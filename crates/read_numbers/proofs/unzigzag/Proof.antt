@@ -1,0 +1,16 @@
+use Rattle.primitives.proofs.Zigzag.{even, odd}
+use borrow.Author.Needs.{needs}
+use Rattle.read_numbers.proofs.unzigzag.Statement.{statement}
+use Rattle.read_numbers.proofs.unzigzag.Tie as tie
+
+returns : tie.Need-returns
+returns c = even _ (c .if1 .taken)
+
+sub-result : tie.Need-sub-result
+sub-result c = search needs
+
+returns-2 : tie.Need-returns-2
+returns-2 c = odd _ (c .if1 .left)
+
+pub unzigzag-spec : {M : Type 1} → statement M
+unzigzag-spec = tie.close (tie.spec returns sub-result returns-2)

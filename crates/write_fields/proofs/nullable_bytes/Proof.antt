@@ -1,0 +1,24 @@
+use mathlib.Core.Path.{refl}
+use Rattle.layout.specs.Primitives.{fixed, kept, lengthBytes, nullBytes, w32}
+use Rattle.layout.specs.Write.{basicFault, unless, writeBasic}
+use Rattle.put.specs.Put.{behindLength}
+use Rattle.writers.specs.Answers.{lengthFault}
+use Rattle.write_fields.proofs.Judged.{nullable-written}
+use borrow.Author.Needs.{needs}
+use Rattle.write_fields.proofs.nullable_bytes.Statement.{statement}
+use Rattle.write_fields.proofs.nullable_bytes.Tie as tie
+
+nullable-requires : tie.Need-nullable-requires
+nullable-requires c κs = search needs
+
+same-length : tie.Need-same-length
+same-length c = search needs
+
+returns : tie.Need-returns
+unfolding basicFault writeBasic unless lengthFault behindLength lengthBytes nullBytes
+returns c =
+    let a = c .before .before .before .before .before .before .args in
+    nullable-written (fixed w32 kept) (a .value .now) (a .out .now) (λ y. 0) refl _ (a .null) (c .before .before .nullable .ensures)
+
+pub nullable-bytes-spec : {M : Type 1} → statement M
+nullable-bytes-spec = tie.close (tie.spec nullable-requires same-length returns)

@@ -1,0 +1,29 @@
+use mathlib.Core.Bool.{Bool}
+use mathlib.Core.Path.{ap}
+use Rattle.layout.specs.Primitives.{fixed, kept, lengthBytes, nullBytes, w16}
+use Rattle.layout.specs.Utf8.{utf8}
+use Rattle.layout.specs.Write.{basicFault, unless, writeBasic}
+use Rattle.put.specs.Put.{behindLength}
+use Rattle.writers.specs.Answers.{lengthFault}
+use Rattle.write_fields.proofs.Judged.{nullable-written}
+use borrow.Author.Needs.{needs}
+use Rattle.write_fields.proofs.nullable_string.Statement.{statement}
+use Rattle.write_fields.proofs.nullable_string.Tie as tie
+
+is-text-requires : tie.Need-is-text-requires
+is-text-requires c κs = search needs
+
+nullable-requires : tie.Need-nullable-requires
+nullable-requires c κs = search needs
+
+same-length : tie.Need-same-length
+same-length c = search needs
+
+returns : tie.Need-returns
+unfolding basicFault writeBasic lengthFault behindLength lengthBytes nullBytes
+returns c =
+    let a = c .before .before .before .before .before .before .before .args in
+    nullable-written (fixed w16 kept) (a .value .now) (a .out .now) (λ y. unless (utf8 y) 7) (ap (λ (b : Bool). unless b 7) (c .before .before .before .is-text .ensures)) _ (a .null) (c .before .before .nullable .ensures)
+
+pub nullable-string-spec : {M : Type 1} → statement M
+nullable-string-spec = tie.close (tie.spec is-text-requires nullable-requires same-length returns)

@@ -1,0 +1,153 @@
+// Counts, data and texts, written: each call judges what it is given, and writes it behind its length at the front of the output that it is lent.
+ghost use mathlib.Core.Path.{_≡_};
+ghost use mathlib.Core.Bool.{cond};
+ghost use Rattle.layout.specs.Primitives.{limit, nullBytes};
+ghost use Rattle.layout.specs.Primitives.{compact, empty, fixed, kept, never, w16, w32};
+ghost use Rattle.layout.specs.Rows.{blob, text};
+ghost use Rattle.layout.specs.Write.{basicFault, unless, writeBasic};
+ghost use Rattle.layout.specs.Answers.{writeAlone};
+ghost use Rattle.put.specs.Put.{behindLength, sizeOf};
+ghost use Rattle.writers.specs.Answers.{countBytes, countFault, lengthFault, nullOr, replied};
+use primitives::MOST;
+use primitives::NOT_TEXT;
+use primitives::TOO_LONG;
+use primitives::TOO_WIDE;
+use primitives::at;
+use put::Form;
+use writers::Written;
+use writers::write::answer;
+
+// Lengths from here on cannot be carried.
+fn limit(form: Form) -> u64
+    ensures { λ r. ⌜ r ≡ limit (sizeOf form) ⌝ }
+{
+    match form {
+        Form::Int16 => 32768,
+        Form::Int32 => 2147483648,
+        Form::Compact => 18446744073709551615,
+    }
+}
+
+// Null in the place of a length.
+fn null_length(out: &mut [u8], form: Form) -> Written
+    ensures { λ r. ⌜ replied r (now (out .exit)) ≡ writeAlone 0 (nullBytes (sizeOf form)) (now (out .entry)) ⌝ }
+{
+    answer(out.len(), put::null(out, form))
+}
+
+// A count, or null.
+fn count(out: &mut [u8], form: Form, null: bool, n: u64) -> Written
+    ensures { λ r. ⌜ replied r (now (out .exit)) ≡ writeAlone (countFault (sizeOf form) null n) (countBytes (sizeOf form) null n) (now (out .entry)) ⌝ }
+{
+    if null {
+        return null_length(out, form);
+    }
+    if n < limit(form) {
+        return answer(out.len(), put::length(out, form, n));
+    }
+    Written::Refused(at(TOO_WIDE, 0))
+}
+
+// A text or data that the form can carry, behind its length. Its size is known before anything is stored.
+fn carried(out: &mut [u8], form: Form, value: &[u8]) -> Written
+    ensures { λ r. ⌜ replied r (now (out .exit)) ≡ writeAlone 0 (behindLength (sizeOf form) (now (value .entry))) (now (out .entry)) ⌝ }
+{
+    let all = put::length_size(form, value.len() as u64) + value.len();
+    if MOST < all {
+        return Written::Refused(at(TOO_LONG, 0));
+    }
+    answer(out.len(), put::sized(out, form, value))
+}
+
+// A text or data behind its length; `good` says that a text is UTF-8, and data always are.
+fn sized(out: &mut [u8], form: Form, value: &[u8], good: bool) -> Written
+    ensures { λ r. ⌜ replied r (now (out .exit)) ≡ writeAlone (lengthFault (sizeOf form) (now (value .entry)) (unless good 7)) (behindLength (sizeOf form) (now (value .entry))) (now (out .entry)) ⌝ }
+{
+    if limit(form) <= value.len() as u64 {
+        return Written::Refused(at(TOO_WIDE, 0));
+    }
+    if good {
+        return carried(out, form, value);
+    }
+    Written::Refused(at(NOT_TEXT, 0))
+}
+
+// The same, or null.
+fn nullable(out: &mut [u8], form: Form, null: bool, value: &[u8], good: bool) -> Written
+    ensures { λ r. ⌜ replied r (now (out .exit)) ≡ writeAlone (cond null 0 (lengthFault (sizeOf form) (now (value .entry)) (unless good 7))) (cond null (nullBytes (sizeOf form)) (behindLength (sizeOf form) (now (value .entry)))) (now (out .entry)) ⌝ }
+{
+    if null {
+        return null_length(out, form);
+    }
+    sized(out, form, value, good)
+}
+
+// STRING: the length as an Int16, and the text.
+pub fn string(out: &mut [u8], value: &[u8]) -> Written
+    ensures { λ r. ⌜ replied r (now (out .exit)) ≡ writeAlone (basicFault (text (fixed w16 never)) (now (value .entry))) (writeBasic (text (fixed w16 never)) (now (value .entry))) (now (out .entry)) ⌝ }
+{
+    sized(out, Form::Int16, value, utf8::is_text(value))
+}
+
+// NULLABLE_STRING: the same, and -1 for null, where the value is not looked at.
+pub fn nullable_string(out: &mut [u8], null: bool, value: &[u8]) -> Written
+    ensures { λ r. ⌜ replied r (now (out .exit)) ≡ writeAlone (basicFault (text (fixed w16 kept)) (nullOr null (now (value .entry)))) (writeBasic (text (fixed w16 kept)) (nullOr null (now (value .entry)))) (now (out .entry)) ⌝ }
+{
+    nullable(out, Form::Int16, null, value, utf8::is_text(value))
+}
+
+// COMPACT_STRING: one more than the length as an unsigned varint, and the text.
+pub fn compact_string(out: &mut [u8], value: &[u8]) -> Written
+    ensures { λ r. ⌜ replied r (now (out .exit)) ≡ writeAlone (basicFault (text (compact never)) (now (value .entry))) (writeBasic (text (compact never)) (now (value .entry))) (now (out .entry)) ⌝ }
+{
+    sized(out, Form::Compact, value, utf8::is_text(value))
+}
+
+// COMPACT_NULLABLE_STRING: the same, and 0 for null.
+pub fn compact_nullable_string(out: &mut [u8], null: bool, value: &[u8]) -> Written
+    ensures { λ r. ⌜ replied r (now (out .exit)) ≡ writeAlone (basicFault (text (compact kept)) (nullOr null (now (value .entry)))) (writeBasic (text (compact kept)) (nullOr null (now (value .entry)))) (now (out .entry)) ⌝ }
+{
+    nullable(out, Form::Compact, null, value, utf8::is_text(value))
+}
+
+// BYTES: the length as an Int32, and the data.
+pub fn bytes(out: &mut [u8], value: &[u8]) -> Written
+    ensures { λ r. ⌜ replied r (now (out .exit)) ≡ writeAlone (basicFault (blob (fixed w32 never)) (now (value .entry))) (writeBasic (blob (fixed w32 never)) (now (value .entry))) (now (out .entry)) ⌝ }
+{
+    sized(out, Form::Int32, value, true)
+}
+
+// NULLABLE_BYTES: the same, and -1 for null.
+pub fn nullable_bytes(out: &mut [u8], null: bool, value: &[u8]) -> Written
+    ensures { λ r. ⌜ replied r (now (out .exit)) ≡ writeAlone (basicFault (blob (fixed w32 kept)) (nullOr null (now (value .entry)))) (writeBasic (blob (fixed w32 kept)) (nullOr null (now (value .entry)))) (now (out .entry)) ⌝ }
+{
+    nullable(out, Form::Int32, null, value, true)
+}
+
+// COMPACT_BYTES: one more than the length as an unsigned varint, and the data.
+pub fn compact_bytes(out: &mut [u8], value: &[u8]) -> Written
+    ensures { λ r. ⌜ replied r (now (out .exit)) ≡ writeAlone (basicFault (blob (compact never)) (now (value .entry))) (writeBasic (blob (compact never)) (now (value .entry))) (now (out .entry)) ⌝ }
+{
+    sized(out, Form::Compact, value, true)
+}
+
+// RECORDS: as BYTES. A null reads as empty records, and none is written.
+pub fn records(out: &mut [u8], value: &[u8]) -> Written
+    ensures { λ r. ⌜ replied r (now (out .exit)) ≡ writeAlone (basicFault (blob (fixed w32 empty)) (now (value .entry))) (writeBasic (blob (fixed w32 empty)) (now (value .entry))) (now (out .entry)) ⌝ }
+{
+    sized(out, Form::Int32, value, true)
+}
+
+// The count of an ARRAY: an Int32, and -1 for null.
+pub fn array_count(out: &mut [u8], null: bool, n: u64) -> Written
+    ensures { λ r. ⌜ replied r (now (out .exit)) ≡ writeAlone (countFault (fixed w32 kept) null n) (countBytes (fixed w32 kept) null n) (now (out .entry)) ⌝ }
+{
+    count(out, Form::Int32, null, n)
+}
+
+// The count of a COMPACT_ARRAY: one more than it as an unsigned varint, and 0 for null.
+pub fn compact_array_count(out: &mut [u8], null: bool, n: u64) -> Written
+    ensures { λ r. ⌜ replied r (now (out .exit)) ≡ writeAlone (countFault (compact kept) null n) (countBytes (compact kept) null n) (now (out .entry)) ⌝ }
+{
+    count(out, Form::Compact, null, n)
+}
