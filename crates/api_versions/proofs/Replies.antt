@@ -20,12 +20,13 @@ use Rattle.layout.proofs.Tests.{le-false, le-true, of-lt}
 use Rattle.primitives.specs.Answers.{noRoom, ofRefusal, versionOf}
 use Rattle.primitives.specs.declared.Refusal as Code
 use Rattle.primitives.proofs.Versions.{known}
+use Rattle.rows.specs.Meter.{short}
 use Rattle.rows.specs.Store.{State, own, tab}
 use Rattle.rows.specs.Walk.{on, walk}
 use Rattle.rows.proofs.Bound.{lean, slim, taken}
 use Rattle.rows.proofs.Close.{slices}
 use Rattle.rows.proofs.OneTable.{nil}
-use Rattle.rows.proofs.Reply.{answers-fits, answers-left, answers-long, answers-needs, answers-no, short}
+use Rattle.rows.proofs.Reply.{answers-fits, answers-left, answers-long, answers-needs, answers-no}
 use Rattle.api_versions.specs.Answers.{ofResponse}
 use Rattle.api_versions_items.specs.Shapes.{keyShape, tagsIf}
 use Rattle.api_versions.specs.Shapes.{bodyShape, responseShape, tailShape}

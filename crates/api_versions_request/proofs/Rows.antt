@@ -5,8 +5,8 @@ use mathlib.Core.Path.{_∙_, _≡_, ap, refl, sym}
 use Prim.Native.Nat.{_<_, _≤_, ℕ}
 use native.Mathlib.Omega.{arith}
 use Rattle.layout.specs.Reading.{Refusal, Res, bad, ok}
-use Rattle.layout.specs.Primitives.{minus}
-use Rattle.layout.specs.Rows.{Basic, Shape, at, field, optional, standing, stands, tagRows}
+use Rattle.layout.specs.Primitives.{compact, minus, never}
+use Rattle.layout.specs.Rows.{Basic, Shape, at, field, optional, standing, stands, tagRows, text}
 use Rattle.layout.specs.Read.{byPlace, readBasic}
 use Rattle.layout.specs.Tables.{absentCells, cells, readRows, span, width}
 use Rattle.layout.specs.Answers.{shape}
@@ -22,12 +22,14 @@ use Rattle.rows.proofs.OneTable.{alone}
 use Rattle.rows.proofs.Fields.{field-no, field-took}
 use Rattle.tags.specs.Answers.{inTables, inTablesIs, tagsShape}
 use Rattle.tags.specs.declared.Walked.{Walked}
-use Rattle.places.proofs.TextAt.{compactString}
 
 abbrev start : List ℕ → List ℕ → State
 start l row = own row ∷ tab l 0 ∷ []
 
 -- ---- version 3
+
+abbrev compactString : Basic
+compactString = text (compact never)
 
 abbrev some-text : Basic
 some-text = optional (0 ∷ 0 ∷ []) compactString

@@ -1,18 +1,19 @@
 -- A primitive on the rest of a message is the primitive at the place where the rest starts.
-use mathlib.Core.Bool.{Bool, false}
+use mathlib.Core.Bool.{Bool, false, true}
 use mathlib.Core.List.{List}
 use mathlib.Core.Path.{_∙_, _≡_, ap, refl, sym}
-use Prim.Native.Nat.{_-_, _<_, _^_, ℕ}
+use Prim.Native.Nat.{_+_, _-_, _<_, _^_, ℕ}
 use lib.ListN.{drop, length}
 use Rattle.layout.specs.Reading.{Reader, Refusal, Res, bad, because, give, next, ok, then}
-use Rattle.layout.specs.Primitives.{Size, Width, admits, cell, checked, lengthOf, refusal, unsigned}
-use Rattle.layout.specs.Rows.{Basic, items, natural, number}
+use Rattle.layout.specs.Primitives.{Size, Width, admits, cell, checked, flag, lengthOf, refusal, unsigned}
+use Rattle.layout.specs.Rows.{Basic, boolean, items, natural, number}
 use Rattle.layout.specs.Read.{byPlace, readBasic}
 use Rattle.layout.proofs.Local.{Local, local-basic, local-checked, local-flag, local-give, local-length, local-then, local-unsigned, not-ok}
 use Rattle.layout.proofs.Steps.{primitive-place}
+use Rattle.fields.specs.Answers.{counted}
 use Rattle.rows.specs.Walk.{itemCount, on}
 use Rattle.rows.proofs.Fields.{field-place}
-use Rattle.rows.proofs.Moves.{Moves, at-fits, at-no, at-took, furtherBasic, moves-basic, moves-items, still}
+use Rattle.rows.proofs.Moves.{Moves, at-fits, at-no, at-took, furtherBasic, moves-basic, moves-checked, moves-items, still}
 use Rattle.places.specs.Moved.{Fits, arrayItems, fromPlace}
 
 -- what a primitive owes to be read so: it does not look where it stands, takes no more than is there, and refuses at its own start
@@ -33,13 +34,30 @@ pub portable-unsigned : Portable unsigned still
 unfolding readBasic
 portable-unsigned = portable-field false natural
 
+pub portable-flag : Portable flag still
+unfolding readBasic
+portable-flag = portable-field false boolean
+
+checked-start : (a : Bool) (n : ℕ) (z : Size) (s : List ℕ) (e : Refusal) → checked a n (lengthOf unsigned z) 0 s ≡ bad e → e ≡ because (e .number) 0
+unfolding checked
+checked-start a n z s e h = primitive-place _ 0 s e h
+
+-- a count with its null
+pub portable-counted : (z : Size) → Portable (counted z) still
+unfolding counted
+portable-counted z = record {
+  moves = moves-checked true 4 z;
+  local = local-checked _ _ _ (local-length unsigned local-unsigned z);
+  at-start = λ s e h. checked-start true 4 z s e h;
+}
+
 items-start : (w : Bool) (z : Size) (s : List ℕ) (e : Refusal) → itemCount w z 0 s ≡ bad e → e ≡ because (e .number) 0
-unfolding itemCount then give checked
+unfolding itemCount then give
 items-start w z s e h = go (checked (admits w z) (refusal z) (lengthOf unsigned z) 0 s) refl h
   where
     go : (o : Res ℕ) → checked (admits w z) (refusal z) (lengthOf unsigned z) 0 s ≡ o → next o (λ n. give (n - 1)) 0 s ≡ bad e → e ≡ because (e .number) 0
     go (ok n m) d g = not-ok (sym g)
-    go (bad c) d g = primitive-place _ 0 s e (d ∙ g)
+    go (bad c) d g = checked-start (admits w z) (refusal z) z s e (d ∙ g)
 
 portable-count : (w : Bool) (z : Size) → Portable (itemCount w z) still
 unfolding itemCount
@@ -58,5 +76,16 @@ module _ {A : Type 0} (r : Reader A) (g : ℕ → A → A) (h : Portable r g) (s
   at-place (ok x n) z e d = d ∙ at-took r g (h .moves) s left p i x n e
   at-place (bad c) z e d = d ∙ at-no r g (h .moves) s left p i _ c e (ap (λ (y : Refusal). y .place) (h .at-start left c (sym e))) refl
 
+  -- the same, by the answer
+  pub took-at : (x : A) (n : ℕ) → ok x n ≡ r 0 left → ok (g p x) (p + n) ≡ on r s p
+  took-at x n e = at-place (ok x n) _ e refl
+
+  pub no-at : (e c : Refusal) → bad e ≡ r 0 left → c ≡ because (e .number) p → bad c ≡ on r s p
+  no-at e c d k = at-place (bad e) _ d (ap bad k)
+
   pub fits : p < 2 ^ 64 → length s < 2 ^ 64 → (o : Res A) → o ≡ r 0 left → Fits p o
   fits a b o e = record { law = λ x n d. at-fits r g (h .moves) s left p i (h .local) x n (sym d ∙ e) (2 ^ 64) a b }
+
+  -- the place behind it is a number of the machine
+  pub place-fits : (x : A) (n : ℕ) → ok x n ≡ r 0 left → p < 2 ^ 64 → length s < 2 ^ 64 → p + n < 2 ^ 64
+  place-fits x n e a b = fits a b (ok x n) e .law x n refl

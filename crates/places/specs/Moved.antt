@@ -1,9 +1,11 @@
 -- What a primitive's answer on the rest of a message says of the message: it used the bytes before the rest too, and it refuses at the place where the rest starts.
 use mathlib.Core.Bool.{Bool, cond}
 use Prim.Native.Nat.{_+_, _<_, _^_, suc, zero, ℕ}
+use mathlib.Core.Option.{Option, none, some}
 use mathlib.Core.Path.{_≡_}
 use Rattle.layout.specs.Reading.{Reader, Res, bad, because, ok}
 use Rattle.layout.specs.Rows.{items, nullableItems}
+use Rattle.layout.specs.Tables.{Span}
 use Rattle.fields.specs.Answers.{counted}
 use Rattle.rows.specs.Walk.{itemCount}
 
@@ -15,6 +17,26 @@ fromPlace g p (bad e) = bad (because (e .number) p)
 -- the place behind it is a number of the machine
 pub record Fits {A : Type 0} (p : ℕ) (o : Res A) : Type 0 where
   pub law : (x : A) (n : ℕ) → o ≡ ok x n → p + n < 2 ^ 64
+
+-- a part, and a field that may be null
+abbrev pub further : ℕ → Span → Span
+further d x = (d + x .0, x .1)
+
+abbrev pub furtherField : ℕ → Option (Option Span) → Option (Option Span)
+furtherField d none = none
+furtherField d (some none) = some none
+furtherField d (some (some x)) = some (some (further d x))
+
+-- the part's start is a number of the machine too
+pub record PartFits (p : ℕ) (o : Res Span) : Type 0 where
+  pub law : (x : Span) (n : ℕ) → o ≡ ok x n → (p + x .0 < 2 ^ 64) × (p + n < 2 ^ 64)
+
+pub record StartFits (p : ℕ) (f : Option (Option Span)) : Type 0 where
+  pub law : (x : Span) → f ≡ some (some x) → p + x .0 < 2 ^ 64
+
+pub record FieldFits (p : ℕ) (o : Res (Option (Option Span))) : Type 0 where
+  pub behind : (x : Option (Option Span)) (n : ℕ) → o ≡ ok x n → p + n < 2 ^ 64
+  pub start : (x : Option (Option Span)) (n : ℕ) → o ≡ ok x n → StartFits p x
 
 -- the number of items, from a count that is read as one more, with 0 for null: null is none, or refused (w: a whole read)
 abbrev pub itemsOf : Bool → Res ℕ → Res ℕ

@@ -1,18 +1,21 @@
 // Primitives at a place of a message, as walks over a body read them: each is read on the rest from the place on, and its answer counts from the message's start.
 ghost use mathlib.Core.Bool.{false};
 ghost use mathlib.Core.Path.{_≡_};
-ghost use Rattle.layout.specs.Primitives.{cell, compact, never, unsigned, w16, w32};
+ghost use Rattle.layout.specs.Primitives.{cell, compact, fixed, flag, kept, never, unsigned, w16, w32};
 ghost use Rattle.layout.specs.Read.{byPlace, readBasic};
 ghost use Rattle.layout.specs.Rows.{text};
-ghost use Rattle.primitives.specs.Answers.{ofNumber};
-ghost use Rattle.fields.specs.Answers.{ofCount, ofPart};
+ghost use Rattle.primitives.specs.Answers.{ofFlag, ofNumber};
+ghost use Rattle.fields.specs.Answers.{counted, ofCount, ofField, ofNullable, ofPart, there};
 ghost use Rattle.rows.specs.Walk.{on};
-ghost use Rattle.places.specs.Moved.{Fits, arrayCount, arrayItems, fromPlace, itemsOf};
+ghost use Rattle.places.specs.Moved.{FieldFits, Fits, PartFits, StartFits, arrayCount, arrayItems, fromPlace, further, furtherField, itemsOf};
 use fields::Count;
+use fields::Field;
+use fields::Nullable;
 use fields::Part;
 use fields::counts;
 use fields::parts;
 use fields::texts;
+use primitives::Flag;
 use primitives::NULL_ITEMS;
 use primitives::Number;
 use primitives::at;
@@ -81,15 +84,89 @@ pub fn items_at(s: &[u8], p: usize, flexible: bool, whole: bool) -> Number
     moved(items(count(parts::rest(s, p), flexible), whole), p)
 }
 
-pub fn compact_string_at(s: &[u8], p: usize) -> Part
-    ensures { λ r. ⌜ ofPart r ≡ on (readBasic (byPlace false) (text (compact never))) (now (s .entry)) p ⌝ }
+// A part of the rest, as a part of the message.
+fn part_moved(part: Part, p: usize) -> Part
+    requires { ⌜ PartFits p (ofPart part) ⌝ }
+    ensures { λ r. ⌜ ofPart r ≡ fromPlace further p (ofPart part) ⌝ }
 {
-    match texts::compact_string(parts::rest(s, p)) {
+    match part {
         Part::Took { start, len, used } => Part::Took {
             start: p + start,
             len,
             used: p + used,
         },
         Part::Refused(e) => Part::Refused(at(e.number, p)),
+    }
+}
+
+pub fn compact_string_at(s: &[u8], p: usize) -> Part
+    ensures { λ r. ⌜ ofPart r ≡ on (readBasic (byPlace false) (text (compact never))) (now (s .entry)) p ⌝ }
+{
+    part_moved(texts::compact_string(parts::rest(s, p)), p)
+}
+
+pub fn string_at(s: &[u8], p: usize) -> Part
+    ensures { λ r. ⌜ ofPart r ≡ on (readBasic (byPlace false) (text (fixed w16 never))) (now (s .entry)) p ⌝ }
+{
+    part_moved(texts::string(parts::rest(s, p)), p)
+}
+
+fn start_moved(field: Field, p: usize) -> Field
+    requires { ⌜ StartFits p (ofField field) ⌝ }
+    ensures { λ r. ⌜ ofField r ≡ furtherField p (ofField field) ⌝ }
+{
+    match field {
+        Field::Absent => Field::Absent,
+        Field::Null => Field::Null,
+        Field::Present { start, len } => Field::Present {
+            start: p + start,
+            len,
+        },
+    }
+}
+
+// A field of the rest, as one of the message.
+fn field_moved(n: Nullable, p: usize) -> Nullable
+    requires { ⌜ FieldFits p (ofNullable n) ⌝ }
+    ensures { λ r. ⌜ ofNullable r ≡ fromPlace furtherField p (ofNullable n) ⌝ }
+{
+    match n {
+        Nullable::Took { field, used } => Nullable::Took {
+            field: start_moved(field, p),
+            used: p + used,
+        },
+        Nullable::Refused(e) => Nullable::Refused(at(e.number, p)),
+    }
+}
+
+pub fn nullable_string_at(s: &[u8], p: usize) -> Nullable
+    ensures { λ r. ⌜ ofNullable r ≡ there (on (readBasic (byPlace false) (text (fixed w16 kept))) (now (s .entry)) p) ⌝ }
+{
+    field_moved(texts::nullable_string(parts::rest(s, p)), p)
+}
+
+pub fn boolean_at(s: &[u8], p: usize) -> Flag
+    ensures { λ r. ⌜ ofFlag r ≡ on flag (now (s .entry)) p ⌝ }
+{
+    match numbers::boolean(parts::rest(s, p)) {
+        Flag::Took { value, used } => Flag::Took {
+            value,
+            used: p + used,
+        },
+        Flag::Refused(e) => Flag::Refused(at(e.number, p)),
+    }
+}
+
+// The count of an array that may be null.
+pub fn count_at(s: &[u8], p: usize) -> Count
+    ensures { λ r. ⌜ ofCount r ≡ on (counted (fixed w32 kept)) (now (s .entry)) p ⌝ }
+{
+    match counts::length32(parts::rest(s, p)) {
+        Count::Null { used } => Count::Null { used: p + used },
+        Count::Took { count, used } => Count::Took {
+            count,
+            used: p + used,
+        },
+        Count::Refused(e) => Count::Refused(at(e.number, p)),
     }
 }

@@ -15,6 +15,7 @@ use Rattle.layout.specs.Tables.{Tables, append, readRows, rowWidth}
 use Rattle.layout.specs.Answers.{most}
 use Rattle.layout.proofs.Calls.{local-rows}
 use Rattle.layout.proofs.Local.{not-ok}
+use Rattle.rows.specs.Meter.{lengths}
 use Rattle.rows.specs.Store.{State, add, limit, own, put, step, store, tab}
 use Rattle.rows.specs.Walk.{on, walk}
 use Rattle.rows.proofs.Alike.{Alike, alike, both, neither}
@@ -89,7 +90,7 @@ put-behind (c ∷ cs) l k h =
     let e : k < limit = omega arith in
     rw (lt-ltb k limit e, add-one) (put-behind cs (set l k c) (suc k) (omega arith) ∙ ap (tab (sets (set l k c) (suc k) cs)) (omega arith))
 
-store-own : (cs ds : List ℕ) → store (own ds) cs ≡ own (ds ++ cs)
+pub store-own : (cs ds : List ℕ) → store (own ds) cs ≡ own (ds ++ cs)
 unfolding store put
 store-own [] ds = ap own (sym (append-nil ds))
 store-own (c ∷ cs) ds = store-own cs (ds ++ (c ∷ [])) ∙ ap own (append-assoc ds (c ∷ []) cs)
@@ -104,10 +105,6 @@ tabs (l ∷ ls) (m ∷ ms) = tab l m ∷ tabs ls ms
 abbrev pub none-yet : Tables → Tables
 none-yet [] = []
 none-yet (l ∷ ls) = [] ∷ none-yet ls
-
-abbrev pub lengths : Tables → List ℕ
-lengths [] = []
-lengths (l ∷ ls) = length l ∷ lengths ls
 
 abbrev pub filled : Tables → Tables → Tables
 filled [] st = []
@@ -219,6 +216,14 @@ module _ (w : Bool) (l : Shape) (h : lean l ≡ true) (narrow : rowWidth l ≤ 1
           let m : n ≡ q = cc in
           made st (d ∙ ap (λ j. ok st j) m) (subst (Stored (own [] ∷ tabs olds []) st) k c)
       go _ _ d g (neither c) = not-ok (sym g)
+
+  -- there is a table for each, and one for the body's own row
+  pub read-long : (st : Tables) (q : ℕ) → readRows w append l 0 ([] ∷ none-yet olds) 0 s ≡ ok st q → length st ≡ suc (length olds)
+  read-long st q e = go _ _ e like
+    where
+      go : (a : Res Tables) (b : Res State) → a ≡ ok st q → Alike (Stored (own [] ∷ tabs olds [])) a b → length st ≡ suc (length olds)
+      go _ _ d (both x y n c) = let k : x ≡ st = cc in ap length (sym k) ∙ c .long ∙ ap suc (tabs-long olds)
+      go _ _ d (neither c) = not-ok d
 
   pub ended-no : {c : Refusal} → bad c ≡ on (walk w l 0 (own [] ∷ tabs olds [])) s 0 → readRows w append l 0 ([] ∷ none-yet olds) 0 s ≡ bad c
   ended-no {c} e = go _ _ refl e like

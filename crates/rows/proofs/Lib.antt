@@ -35,3 +35,9 @@ pub mod Judged
 pub mod Times
 -- faults that all have the same number
 pub mod Faults
+-- a row read as its cells
+pub mod RowCells
+-- a read that measures first
+pub mod Metered
+-- rows one by one: what they mean, the first fault, and bytes one behind the other
+pub mod Turns

@@ -15,7 +15,8 @@ use Rattle.rows.specs.Store.{State, Tab, add, own, store, tab}
 use Rattle.rows.specs.Walk.{Places, on, walk}
 use Rattle.rows.proofs.Bound.{slim}
 use Rattle.rows.proofs.Close.{slices}
-use Rattle.rows.proofs.Reply.{answers-fits, answers-needs, answers-no, short}
+use Rattle.rows.specs.Meter.{short}
+use Rattle.rows.proofs.Reply.{answers-fits, answers-needs, answers-no}
 
 -- the body's own row and the table
 pub alone-row : (x y : Tab) (cs : List ℕ) → add 0 cs (x ∷ y ∷ []) ≡ store x cs ∷ y ∷ []

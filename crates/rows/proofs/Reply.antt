@@ -19,19 +19,13 @@ use Rattle.layout.proofs.Calls.{Seen, need-is, read-answer, read-refused, seen-
 use Rattle.layout.proofs.Contents.{joined-length, rows-wide, rowsIn}
 use Rattle.layout.proofs.Proper.{owed, proper, width-same, widthAt}
 use Rattle.layout.proofs.Tests.{le-true, lt-false, lt-true, of-le}
+use Rattle.rows.specs.Meter.{lengths, short}
 use Rattle.rows.specs.Store.{State, own}
 use Rattle.rows.specs.Walk.{on, walk}
 use Rattle.rows.proofs.Bound.{lean, slim, slim-at}
-use Rattle.rows.proofs.Close.{Ended, ended, ended-no, filled, lengths, marks, none-yet, runs-so, slices, slices-tabs, tabs}
+use Rattle.rows.proofs.Close.{Ended, ended, ended-no, filled, marks, none-yet, runs-so, slices, slices-tabs, tabs}
 
 -- ---- rows for rows
-
--- the rows needed of the first table that is too small: widths, marks, cells lent
-unfoldable pub short : List ℕ → List ℕ → List ℕ → Option ℕ
-short [] ms ls = none
-short (w ∷ ws) [] ls = none
-short (w ∷ ws) (m ∷ ms) [] = cond (eqb (m / w) 0) (short ws ms []) (some (m / w))
-short (w ∷ ws) (m ∷ ms) (l ∷ ls) = cond (leb (m / w) (l / w)) (short ws ms ls) (some (m / w))
 
 pub needed-is : (ws : List ℕ) (st room : Tables) → needed ws st room ≡ short ws (lengths st) (lengths room)
 unfolding needed short
@@ -68,7 +62,7 @@ filled-laid (w ∷ ws) (l ∷ olds) (cs ∷ st) e u h =
 
 -- ---- the tables of a message
 
-none-same : (olds : Tables) (n : ℕ) → length olds ≡ n → none-yet olds ≡ replicate n []
+pub none-same : (olds : Tables) (n : ℕ) → length olds ≡ n → none-yet olds ≡ replicate n []
 none-same [] zero e = refl
 none-same [] (suc n) e = absurd (omega (arith, e))
 none-same (l ∷ olds) zero e = absurd (omega (arith, e))

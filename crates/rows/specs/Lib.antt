@@ -2,3 +2,5 @@
 pub mod Step
 pub mod Store
 pub mod Walk
+-- what is known of a message before any room is looked at
+pub mod Meter

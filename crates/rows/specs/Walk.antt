@@ -1,6 +1,6 @@
 -- What a walk over a part of a body promises: one equation with the tables that it was given and those that it leaves. Assumes nothing.
-use mathlib.Core.Bool.{Bool}
-use mathlib.Core.List.{List}
+use mathlib.Core.Bool.{Bool, false}
+use mathlib.Core.List.{List, _++_}
 use mathlib.Core.Path.{_≡_}
 use Prim.Native.Nat.{_-_, ℕ}
 use lib.ListN.{drop}
@@ -39,3 +39,7 @@ pub record Places : Type 0 where
 -- Run from b at p, the walk comes to f. e is what the walk does not touch, the other tables or where its own stand among them: it may be anything
 pub record Runs {E : Type 0} (x : E → State → Reader State) (s : List ℕ) (p : ℕ) (b : E → State) (f : E → Res State) : Type 0 where
   pub law : (e : E) → f e ≡ on (x e (b e)) s p
+
+-- a row with no arrays in it, as its cells behind those that were read before
+unfoldable pub rowFrom : List ℕ → Shape → Reader (List ℕ)
+rowFrom ds l = readRows false (λ t cs es. es ++ cs) l 0 ds

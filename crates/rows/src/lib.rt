@@ -39,3 +39,11 @@ pub fn store4(table: &mut [u64], mark: usize, a: u64, b: u64, c: u64, d: u64) ->
     let second = store(table, mark, a);
     store3(table, second, b, c, d)
 }
+
+// A row of five cells.
+pub fn store5(table: &mut [u64], mark: usize, a: u64, b: u64, c: u64, d: u64, e: u64) -> usize
+    ensures { λ r. ⌜ tab (now (table .exit)) r ≡ store (tab (now (table .entry)) mark) (a ∷ b ∷ c ∷ d ∷ e ∷ []) ⌝ }
+{
+    let second = store(table, mark, a);
+    store4(table, second, b, c, d, e)
+}

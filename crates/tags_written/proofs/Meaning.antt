@@ -1,18 +1,19 @@
 -- What rows of tags mean, in whatever table they stand: their values, the bytes of these, and that these have no fault.
 use mathlib.Core.Bool.{_&&_, and-true, false, true}
 use mathlib.Core.List.{List, [], _++_, _∷_, append-nil, map}
-use mathlib.Core.Path.{_∙_, _≡_, ap, ap₂, refl, sym}
+use mathlib.Core.Path.{_∙_, _≡_, ap, ap₂, refl}
 use Prim.Native.Nat.{_*_, _+_, _/_, _<_, _^_, suc, zero, ℕ}
 use native.Mathlib.Omega.{arith}
 use lib.Dec.{lit<}
-use lib.ListN.{drop, getD, length, length-drop, length-map, length-set, length-take, set, take}
-use lib.Seq.{drop-drop, getD-drop, getD-set-same, getD-take, set-getD, set-set}
+use lib.ListN.{drop, getD, length, length-drop, length-map, length-take, set, take}
+use lib.Seq.{drop-drop, getD-drop, getD-set-same, getD-take, set-set}
 use Rattle.layout.specs.Primitives.{lengthBytes, plain, sizedBytes, unsignedBytes}
 use Rattle.layout.specs.Rows.{Shape, Value, blob, end, field, natural}
 use Rattle.layout.specs.Tables.{Tables, basicOf, chunks, goodSpan, inside, pop, rowsOf, slice, spanOf, times, valueOf, width}
 use Rattle.layout.specs.Write.{basicFault, each, fault, firstOf, or, sizedFault, unless, write, writeBasic}
 use Rattle.layout.proofs.Tests.{lt-true}
 use Rattle.rows.proofs.Chunks.{chunks-many, rows-many}
+use Rattle.rows.proofs.Turns.{each-map, times-rows}
 use Rattle.put.specs.Put.{behindLength}
 use Rattle.tags_written.specs.Tags.{ranged, rowBytes, rowsBytes, tagBytes, tagsBytes}
 
@@ -53,21 +54,7 @@ module _ (lent : List ℕ) where
 
     -- n rows of table o
     pub tags-value : (n : ℕ) (st : Tables) → o < length st → times n (valueOf lent tag o) st ≡ (map meaning (chunks n 3 (getD st o [])), set st o (drop (n * 3) (getD st o [])))
-    unfolding times chunks
-    tags-value zero st h = λ i. ([], sym (set-getD st o []) i)
-    tags-value (suc n) st h =
-        let cs : List ℕ = getD st o [] in
-        let su : Tables = set st o (drop 3 cs) in
-        let e : getD su o [] ≡ drop 3 cs = getD-set-same st o (drop 3 cs) [] h in
-        let r =
-        tags-value n su (omega (arith, length-set st o (drop 3 cs)))
-        ∙ (λ i. (map meaning (chunks n 3 (e i)), set su o (drop (n * 3) (e i))))
-        ∙ (λ i. (map meaning (chunks n 3 (drop 3 cs)), (set-set st o (drop 3 cs) (drop (n * 3) (drop 3 cs)) ∙ ap (set st o) (drop-drop (n * 3) 3 cs ∙ ap (λ (k : ℕ). drop k cs) next)) i))
-        in
-        rw (tag-value st h) (λ i. (meaning (take 3 cs) ∷ r i .0, r i .1))
-      where
-        next : 3 + n * 3 ≡ suc n * 3
-        next = omega arith
+    tags-value = times-rows 3 o (valueOf lent tag o) meaning tag-value
 
   -- ---- the bytes
 
@@ -76,9 +63,7 @@ module _ (lent : List ℕ) where
   bytes-of r = ap (λ (s : List ℕ). unsignedBytes (getD r 0 0) ++ s) (append-nil _)
 
   all-bytes : (rs : List (List ℕ)) → each (write tag) (map meaning rs) ≡ each (rowBytes lent) rs
-  unfolding each
-  all-bytes [] = refl
-  all-bytes (r ∷ rs) = ap₂ (λ (x y : List ℕ). x ++ y) (bytes-of r) (all-bytes rs)
+  all-bytes = each-map meaning (write tag) (rowBytes lent) bytes-of
 
   -- all rows of a table behind their number
   pub tags-bytes : (table : List ℕ) → sizedBytes false plain (λ xs. each (write tag) xs) (map meaning (rowsOf 3 table)) ≡ tagsBytes lent table

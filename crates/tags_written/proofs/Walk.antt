@@ -1,5 +1,5 @@
 -- The walk over a table's rows: ranges, parts of the lent bytes, bytes written row by row, and the counts that 13 asks for.
-use mathlib.Core.Bool.{Bool, and-false, and-true, cond, false, true}
+use mathlib.Core.Bool.{Bool, _&&_, and-false, and-true, cond, false, true}
 use mathlib.Core.List.{List, [], _++_}
 use mathlib.Core.Logic.{_≢_}
 use mathlib.Core.Path.{_∙_, _≡_, ap, ap₂, refl, sym}
@@ -14,11 +14,10 @@ use borrow.Author.Tests.{eq-eqb, ne-eqb}
 use borrow.Rule.Slice.PartMut.{midOf, putMid}
 use Rattle.layout.specs.Primitives.{lengthBytes, minus, plain, unsignedBytes}
 use Rattle.layout.specs.Tables.{count, goodCount, inside, rowsOf, slice}
-use Rattle.layout.specs.Write.{each}
 use Rattle.layout.proofs.Tests.{le-false, le-true, lt-true}
 use Rattle.rows.specs.Step.{Capped, Step, cap}
-use Rattle.rows.proofs.Capped.{capped, capped-all, capped-as, capped-behind, capped-next, capped-none}
-use Rattle.rows.proofs.Chunks.{row-cell, rows-many}
+use Rattle.rows.proofs.Capped.{capped, capped-as, capped-behind}
+use Rattle.rows.proofs.Chunks.{row-cell}
 use Rattle.rows.proofs.Step.{step-behind}
 use Rattle.put.specs.Put.{Put, behindLength}
 use Rattle.put.proofs.Stored.{put-step}
@@ -78,25 +77,6 @@ module _ {d d₁ e : List ℕ} {n m : ℕ} (at : ℕ) (h : at ≡ min n (length 
   tag-put lent tag start k x i p q r j =
       capped-as (ap (λ (y : List ℕ). unsignedBytes tag ++ behindLength plain y) i) (capped-behind (capped (put-step p)) at h (capped q) r j)
 
--- ---- rows one behind the other
-
--- i rows stand there
-pub record Walked (lent table d : List ℕ) (i n : ℕ) (d′ : List ℕ) : Type 0 where
-  pub below : i ≤ length table / 3
-  pub step : Capped (each (rowBytes lent) (take i (rowsOf 3 table))) d n d′
-
-module _ (lent table d : List ℕ) where
-  pub walked-start : Walked lent table d 0 0 d
-  walked-start = record { below = omega arith; step = capped-none (rowBytes lent) (rowsOf 3 table) d }
-
-  module _ {i n : ℕ} {d₁ : List ℕ} (a : Walked lent table d i n d₁) where
-    pub walked-more : i < length table / 3 → {m : ℕ} (at : ℕ) {e : List ℕ} → at ≡ min n (length d₁) → Capped (rowBytes lent (getD (rowsOf 3 table) i [])) (midOf at (length d₁ - at) d₁) m e → (r : ℕ) → cap r ≡ cap (n + m) → Walked lent table d (i + 1) r (putMid at (length d₁ - at) d₁ e)
-    walked-more h at j s r k = record { below = omega arith; step = capped-next (rowBytes lent) (rowsOf 3 table) i [] (omega (arith, rows-many 3 table)) (a .step) at j s r k }
-
-    pub walked-end : length table / 3 ≤ i → Capped (rowsBytes lent table) d n d₁
-    unfolding rowsBytes
-    walked-end h = capped-all (rowBytes lent) (rowsOf 3 table) i (omega (arith, rows-many 3 table)) (a .step)
-
 -- ---- their number in front of them
 
 pub tags-put : (lent table : List ℕ) {d d₁ e : List ℕ} {n m : ℕ} (at : ℕ) → at ≡ min n (length d₁) → Put (unsignedBytes (length table / 3)) d n d₁ → Capped (rowsBytes lent table) (midOf at (length d₁ - at) d₁) m e → (r : ℕ) → cap r ≡ cap (n + m) → Capped (tagsBytes lent table) d r (putMid at (length d₁ - at) d₁ e)
@@ -123,11 +103,19 @@ count-good c h = go (eqb c minus) h
     go true h = refl
     go false h = lt-true c (2 ^ 63) h
 
+-- a table of n rows, and r, what else is asked of it
+module _ (c n : ℕ) (r : Bool) {k : ℕ} (e : k ≡ count c) where
+  pub rows-other : k ≢ n → false ≡ (goodCount true c && (r && eqb (count c) n))
+  rows-other h = sym (rw (ne-eqb (count c) n (λ d. h (e ∙ d)), and-false r) (and-false (goodCount true c)))
+
+  pub rows-same : k ≡ n → n < 2 ^ 63 → (b : Bool) → b ≡ r → b ≡ (goodCount true c && (r && eqb (count c) n))
+  rows-same h l b i = i ∙ sym (rw (count-good c (omega arith), eq-eqb (count c) n (sym e ∙ h)) (and-true r))
+
 module _ (size c : ℕ) (table : List ℕ) where
   pub other-count : {k : ℕ} → k ≡ count c → k ≢ length table / 3 → false ≡ tagsGood size c table
   unfolding tagsGood
-  other-count e h = sym (rw (ne-eqb (count c) (length table / 3) (λ d. h (e ∙ d)), and-false (allRanged size table)) (and-false (goodCount true c)))
+  other-count e h = rows-other c (length table / 3) (allRanged size table) e h
 
   pub same-count : {k : ℕ} → k ≡ count c → k ≡ length table / 3 → length table < 2 ^ 64 → (b : Bool) → b ≡ allRanged size table → b ≡ tagsGood size c table
   unfolding tagsGood
-  same-count e h l b i = i ∙ sym (rw (count-good c (omega arith), eq-eqb (count c) (length table / 3) (sym e ∙ h)) (and-true (allRanged size table)))
+  same-count e h l b i = rows-same c (length table / 3) (allRanged size table) e h (omega arith) b i

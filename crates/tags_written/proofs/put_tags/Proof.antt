@@ -1,18 +1,19 @@
 -- Before each turn the first i rows stand there.
 use borrow.Author.Needs.{needs}
 use Prim.Native.Nat.{_-_}
-use Rattle.tags_written.proofs.Walk.{Walked, walked-end, walked-more, walked-start}
+use Rattle.rows.proofs.Turns.{Walked, walked-end, walked-more, walked-start}
+use Rattle.tags_written.specs.Tags.{rowBytes, rowsBytes}
 use Rattle.tags_written.proofs.put_tags.Statement.{statement}
 use Rattle.tags_written.proofs.put_tags.Tie as tie
 
 abbrev Inv-loop : tie.InvT-loop
-Inv-loop out₀ lent table n done₀ i₀ out done i = Walked lent table out₀ i done out
+Inv-loop out₀ lent table n done₀ i₀ out done i = Walked (rowBytes lent) 3 table out₀ i done out
 
 abbrev μ-loop : tie.MeasureT-loop
 μ-loop out₀ lent table n done₀ i₀ out done i = n - i
 
 loop-holds : tie.Need-loop-holds Inv-loop μ-loop
-loop-holds c = walked-start _ _ _
+loop-holds c = walked-start _ _ _ _
 
 behind-requires : tie.Need-behind-requires Inv-loop μ-loop
 behind-requires c κs = search needs
@@ -45,6 +46,7 @@ same-length : tie.Need-same-length Inv-loop μ-loop
 same-length c = search needs
 
 returns : tie.Need-returns Inv-loop μ-loop
+unfolding rowsBytes
 returns c = search (needs, walked-end)
 
 pub put-tags-spec : {M : Type 1} → statement M

@@ -1,0 +1,2 @@
+-- what the walks in search of a host say
+pub mod Hosts

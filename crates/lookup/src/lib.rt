@@ -1,0 +1,88 @@
+// The host of a node, in a message read as a Metadata response. The whole message is judged first; then the brokers are sought through, up to the first with that node.
+ghost use mathlib.Core.List.{[]};
+ghost use mathlib.Core.Path.{_≡_};
+ghost use Rattle.layout.specs.Lookup.{lookup};
+ghost use Rattle.layout.specs.Reading.{many};
+ghost use Rattle.rows.specs.Walk.{rowFrom};
+ghost use Rattle.brokers.specs.Brokers.{brokerShape};
+ghost use Rattle.lookup.specs.Hosts.{Seeks, brokersOf, ofHost};
+use brokers::BrokerRow;
+use brokers::broker_row;
+use metadata::body::Walked;
+use metadata::response::measure;
+use places::items_at;
+use primitives::Number;
+use primitives::Refusal;
+use primitives::version_of;
+use versioned::Version;
+use versioned::int32_if;
+
+// The part of the message that is the host, no broker with that node, or why the message is refused.
+pub enum Host {
+    Found { start: usize, len: usize },
+    Unknown,
+    Refused(Refusal),
+}
+
+// The first of `count` brokers with that node. Brokers that are refused are not met here: their message was refused before.
+fn seek(s: &[u8], p: usize, racked: bool, count: u64, node: u64) -> Host
+    ensures { λ r. ⌜ Seeks (many count (rowFrom [] (brokerShape racked))) (now (s .entry)) p node (ofHost r) ⌝ }
+{
+    let mut left = count;
+    let mut place = p;
+    while 0 < left {
+        match broker_row(s, place, racked) {
+            BrokerRow::Took { row, next } => {
+                if row.node == node {
+                    return Host::Found {
+                        start: row.host,
+                        len: row.len,
+                    };
+                }
+                place = next;
+                left = left - 1;
+            }
+            BrokerRow::Refused(e) => {
+                return Host::Refused(e);
+            }
+        }
+    }
+    Host::Unknown
+}
+
+// In a body that is accepted; `throttled`: a throttle time stands in front of the brokers.
+fn host_in(s: &[u8], racked: bool, throttled: bool, node: u64) -> Host
+    ensures { λ r. ⌜ Seeks (brokersOf racked throttled) (now (s .entry)) 0 node (ofHost r) ⌝ }
+{
+    match int32_if(s, 0, throttled) {
+        Version::Took {
+            value: throttle,
+            next: p,
+        } => match items_at(s, p, false, false) {
+            Number::Took {
+                value: count,
+                used: q,
+            } => seek(s, q, racked, count, node),
+            Number::Refused(e) => Host::Refused(e),
+        },
+        Version::Refused(e) => Host::Refused(e),
+    }
+}
+
+// The first broker with that node decides, if the whole message is accepted by a prefix read but for room.
+pub fn host_of(msg: &[u8], version: i16, node: u64) -> Host
+    ensures { λ r. ⌜ ofHost r ≡ lookup node version (now (msg .entry)) ⌝ }
+{
+    match measure(msg, version) {
+        Walked::Took {
+            body,
+            next,
+            brokers,
+            marks,
+        } => {
+            let v = version_of(version);
+            host_in(msg, 1 <= v, 3 <= v, node)
+        }
+        Walked::Refused(e) => Host::Refused(e),
+    }
+}

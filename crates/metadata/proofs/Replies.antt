@@ -1,0 +1,163 @@
+-- The whole reply of a read, from what the measuring and the filling walk came to.
+use mathlib.Core.Bool.{false, true}
+use mathlib.Core.List.{List, [], _∷_}
+use mathlib.Core.Option.{none, some}
+use mathlib.Core.Path.{_∙_, _≡_, ap, refl, sym}
+use Prim.Native.Nat.{_/_, _<_, _≤_, suc, zero, ℕ}
+use native.Mathlib.Nat.{div-one}
+use native.Mathlib.Omega.{arith}
+use lib.IntN.{negsuc, pos, ℤ}
+use lib.ListN.{length}
+use mir.Facts.{toZ-ofZ}
+use mir.Syntax.{w16}
+use mir.Val.{SFits, ofZ, toZ}
+use Rattle.layout.specs.Reading.{Refusal, Res, bad, because, ok}
+use Rattle.layout.specs.Rows.{Shape, at, standing, stands}
+use Rattle.layout.specs.Tables.{Tables, all, arrays, from, kindIn, kindOf, rowWidth, width}
+use Rattle.layout.specs.Answers.{Answer, accepted, prefixRead, refused, seen, shape, widths}
+use Rattle.layout.specs.Messages.Metadata as Meta
+use Rattle.layout.proofs.Calls.{too-long, version-above, version-below}
+use Rattle.layout.proofs.Local.{not-ok}
+use Rattle.layout.proofs.Proper.{metadata-response}
+use Rattle.layout.proofs.Tests.{le-false, le-true}
+use Rattle.primitives.specs.Answers.{noRoom, ofRefusal, versionOf}
+use Rattle.primitives.specs.declared.Refusal as Code
+use Rattle.primitives.proofs.Versions.{known}
+use Rattle.rows.specs.Meter.{lengths, metered, short}
+use Rattle.rows.specs.Store.{State, own, tab}
+use Rattle.rows.specs.Walk.{on, walk}
+use Rattle.rows.proofs.Bound.{lean, slim, taken}
+use Rattle.rows.proofs.Close.{slices, tabs}
+use Rattle.rows.proofs.Metered.{is-known, measured-no, measured-took, metered-fits, metered-no, metered-short}
+use Rattle.brokers.specs.Brokers.{brokerShape}
+use Rattle.topics.specs.Shapes.{nodeShape, partitionShape, topicShape}
+use Rattle.topics.specs.declared.Marks.{Marks}
+use Rattle.metadata.specs.Answers.{ofMeasure, ofResponse, ofRoom, sizes}
+use Rattle.metadata.specs.Shapes.{bodyShape, tailShape}
+use Rattle.metadata.specs.Walks.{ofWalked}
+use Rattle.metadata.specs.declared.ResponseBody.{ResponseBody}
+use Rattle.metadata.specs.declared.body.Walked.{Walked}
+use Rattle.metadata.specs.declared.response.Room.{Room}
+
+-- ---- what the laws of all messages ask of this one, computed
+
+is-slim : slim Meta.response ≡ true
+unfolding slim all from lean taken rowWidth width shape at stands standing Meta.nodeRows Meta.partitionRows Meta.topicRows Meta.brokerRows Meta.responseRows
+is-slim = refl
+
+row-widths : widths Meta.response ≡ 7 ∷ 5 ∷ 5 ∷ 1 ∷ 1 ∷ []
+unfolding widths from kindOf kindIn arrays rowWidth width shape at stands standing Meta.nodeRows Meta.partitionRows Meta.topicRows Meta.brokerRows Meta.responseRows
+row-widths = refl
+
+-- the layout of a version, by what sets it apart
+pub shape-is : (v : ℕ) → v ≤ 4 → shape Meta.response v ≡ bodyShape v
+unfolding shape at stands standing Meta.nodeRows Meta.partitionRows Meta.topicRows Meta.brokerRows Meta.responseRows bodyShape tailShape brokerShape topicShape partitionShape nodeShape
+shape-is zero h = refl
+shape-is (suc zero) h = refl
+shape-is (suc (suc zero)) h = refl
+shape-is (suc (suc (suc zero))) h = refl
+shape-is (suc (suc (suc (suc zero)))) h = refl
+shape-is (suc (suc (suc (suc (suc v))))) h = absurd (omega arith)
+
+-- ---- room, in table order
+
+module _ (k : ℕ) (m : Marks) (b t p r i : ℕ) where
+  abbrev Lacks : Room → Type 0
+  Lacks o = ofRoom o ≡ short (widths Meta.response) (sizes k m) (b ∷ t ∷ p ∷ r ∷ i ∷ [])
+
+  pub short-brokers : b / 7 < k / 7 → Lacks (Room.Needs (k / 7))
+  unfolding short
+  short-brokers h = rw (row-widths, le-false (k / 7) (b / 7) h)
+
+  module _ (f : k / 7 ≤ b / 7) where
+    pub short-topics : t / 5 < m .topics / 5 → Lacks (Room.Needs (m .topics / 5))
+    unfolding short
+    short-topics h = rw (row-widths, le-true (k / 7) (b / 7) f, le-false (m .topics / 5) (t / 5) h)
+
+    module _ (g : m .topics / 5 ≤ t / 5) where
+      pub short-partitions : p / 5 < m .partitions / 5 → Lacks (Room.Needs (m .partitions / 5))
+      unfolding short
+      short-partitions h = rw (row-widths, le-true (k / 7) (b / 7) f, le-true (m .topics / 5) (t / 5) g, le-false (m .partitions / 5) (p / 5) h)
+
+      module _ (h : m .partitions / 5 ≤ p / 5) where
+        pub short-replicas : r < m .replicas → Lacks (Room.Needs (m .replicas))
+        unfolding short
+        short-replicas j = rw (row-widths, le-true (k / 7) (b / 7) f, le-true (m .topics / 5) (t / 5) g, le-true (m .partitions / 5) (p / 5) h, div-one (m .replicas), div-one r, le-false (m .replicas) r j)
+
+        module _ (j : m .replicas ≤ r) where
+          pub short-synced : i < m .synced → Lacks (Room.Needs (m .synced))
+          unfolding short
+          short-synced l = rw (row-widths, le-true (k / 7) (b / 7) f, le-true (m .topics / 5) (t / 5) g, le-true (m .partitions / 5) (p / 5) h, div-one (m .replicas), div-one r, le-true (m .replicas) r j, div-one (m .synced), div-one i, le-false (m .synced) i l)
+
+          pub short-none : m .synced ≤ i → Lacks Room.Enough
+          unfolding short
+          short-none l = rw (row-widths, le-true (k / 7) (b / 7) f, le-true (m .topics / 5) (t / 5) g, le-true (m .partitions / 5) (p / 5) h, div-one (m .replicas), div-one r, le-true (m .replicas) r j, div-one (m .synced), div-one i, le-true (m .synced) i l)
+
+-- ---- the measure
+
+module _ (v : ℕ) (s bs ts ps rs is : List ℕ) where
+  -- the walk of code over these tables
+  abbrev walked : Res State
+  walked = on (walk false (bodyShape v) 0 (own [] ∷ tab bs 0 ∷ tab ts 0 ∷ tab ps 0 ∷ tab rs 0 ∷ tab is 0 ∷ [])) s 0
+
+  as-shape : v ≤ 4 → walked ≡ on (walk false (shape Meta.response v) 0 (own [] ∷ tabs (bs ∷ ts ∷ ps ∷ rs ∷ is ∷ []) [])) s 0
+  as-shape h = ap (λ (l : Shape). on (walk false l 0 (own [] ∷ tab bs 0 ∷ tab ts 0 ∷ tab ps 0 ∷ tab rs 0 ∷ tab is 0 ∷ [])) s 0) (sym (shape-is v h))
+
+  pub measured : v ≤ 4 → length s ≤ 1048576 → (bs′ ts′ ps′ rs′ is′ : List ℕ) (r : Walked) → ofWalked bs′ ts′ ps′ rs′ is′ r ≡ walked → ofMeasure r ≡ metered (seen false Meta.response (pos v) s)
+  measured h size bs′ ts′ ps′ rs′ is′ (Walked.Took x n b m) e =
+      measured-took Meta.response metadata-response is-slim v h s size (bs ∷ ts ∷ ps ∷ rs ∷ is ∷ []) refl (ofResponse x) (tab bs′ b ∷ tab ts′ (m .topics) ∷ tab ps′ (m .partitions) ∷ tab rs′ (m .replicas) ∷ tab is′ (m .synced) ∷ []) n (e ∙ as-shape h)
+  measured h size bs′ ts′ ps′ rs′ is′ (Walked.Refused c) e =
+      measured-no Meta.response metadata-response is-slim v h s size (bs ∷ ts ∷ ps ∷ rs ∷ is ∷ []) refl (ofRefusal c) (e ∙ as-shape h)
+
+-- 1 and 2 come first
+module _ (z : ℤ) (v : ℕ) (e : v ≡ versionOf z) (s : List ℕ) (c : Refusal) where
+  pub measure-unknown : 4 < v → c ≡ because 1 0 → bad c ≡ metered (seen false Meta.response z s)
+  unfolding metered
+  measure-unknown h d = ap bad d ∙ ap metered (sym (go z e))
+    where
+      go : (z : ℤ) → v ≡ versionOf z → seen false Meta.response z s ≡ bad (because 1 0)
+      go (pos n) i = version-above false Meta.response n s (omega arith)
+      go (negsuc n) i = version-below false Meta.response n s
+
+  pub measure-long : v ≤ 4 → 1048576 < length s → c ≡ because 2 0 → bad c ≡ metered (seen false Meta.response z s)
+  unfolding metered
+  measure-long h l d = ap bad d ∙ ap metered (sym (too-long false Meta.response v s h l)) ∙ ap (λ (y : ℤ). metered (seen false Meta.response y s)) (known Meta.response z v e h (omega arith))
+
+pub measure-at : (z : ℤ) (v : ℕ) → v ≡ versionOf z → v ≤ 4 → (s : List ℕ) (o : Res (List ℕ × List ℕ)) → o ≡ metered (seen false Meta.response (pos v) s) → o ≡ metered (seen false Meta.response z s)
+measure-at z v e h s o d = d ∙ ap (λ (y : ℤ). metered (seen false Meta.response y s)) (known Meta.response z v e h (omega arith))
+
+-- of a version that passed an argument
+pub measure-passed : (z : ℤ) → SFits w16 z → (s : List ℕ) (o : Res (List ℕ × List ℕ)) → o ≡ metered (seen false Meta.response (toZ w16 (ofZ w16 z)) s) → o ≡ metered (seen false Meta.response z s)
+measure-passed z f s o d = d ∙ ap (λ (y : ℤ). metered (seen false Meta.response y s)) (toZ-ofZ f)
+
+-- ---- the reply
+
+module _ (z : ℤ) (s bs ts ps rs is : List ℕ) (r : Walked) (h : ofMeasure r ≡ metered (seen false Meta.response z s)) where
+  abbrev olds : Tables
+  olds = bs ∷ ts ∷ ps ∷ rs ∷ is ∷ []
+
+  pub reply-no : (c : Code.Refusal) → r ≡ Walked.Refused c → (refused (ofRefusal c), olds) ≡ prefixRead Meta.response z olds s
+  unfolding prefixRead
+  reply-no c d = metered-no Meta.response metadata-response is-slim z s (ofRefusal c) (ap ofMeasure (sym d) ∙ h) olds
+
+  module _ (x : ResponseBody) (n b : ℕ) (m : Marks) (d : r ≡ Walked.Took x n b m) (v : ℕ) (e : v ≡ versionOf z) (o : Room) (g : ofRoom o ≡ short (widths Meta.response) (sizes b m) (lengths olds)) where
+    is-metered : ok (ofResponse x, sizes b m) n ≡ metered (seen false Meta.response z s)
+    is-metered = ap ofMeasure (sym d) ∙ h
+
+    number-of : (k : ℕ) → z ≡ pos k → v ≡ k
+    number-of k i = e ∙ ap versionOf i
+
+    pub reply-short : (k : ℕ) → o ≡ Room.Needs k → (c : Refusal) → c ≡ noRoom k → (refused c, olds) ≡ prefixRead Meta.response z olds s
+    unfolding prefixRead
+    reply-short k i c j = metered-short Meta.response metadata-response is-slim z s (ofResponse x) (sizes b m) n is-metered olds refl v number-of k (sym g ∙ ap ofRoom i) c j
+
+    pub reply-took : o ≡ Room.Enough → (bs′ ts′ ps′ rs′ is′ : List ℕ) (w : Walked) → ofWalked bs′ ts′ ps′ rs′ is′ w ≡ walked v s bs ts ps rs is → (accepted (ofResponse x) n, bs′ ∷ ts′ ∷ ps′ ∷ rs′ ∷ is′ ∷ []) ≡ prefixRead Meta.response z olds s
+    unfolding prefixRead
+    reply-took i bs′ ts′ ps′ rs′ is′ w j =
+        let k = is-known Meta.response metadata-response is-slim z s (ofResponse x) (sizes b m) n is-metered v number-of in
+        metered-fits Meta.response metadata-response is-slim z s (ofResponse x) (sizes b m) n is-metered olds refl v number-of (sym g ∙ ap ofRoom i) (ofWalked bs′ ts′ ps′ rs′ is′ w) (j ∙ as-shape v s bs ts ps rs is (k .1 .0)) (bs′ ∷ ts′ ∷ ps′ ∷ rs′ ∷ is′ ∷ [])
+        (λ y q f. holds w y q f)
+      where
+        holds : (w : Walked) (y : State) (q : ℕ) → ofWalked bs′ ts′ ps′ rs′ is′ w ≡ ok y q → slices y ≡ bs′ ∷ ts′ ∷ ps′ ∷ rs′ ∷ is′ ∷ []
+        holds (Walked.Took x n b m) y q f = let u : own (ofResponse x) ∷ tab bs′ b ∷ tab ts′ (m .topics) ∷ tab ps′ (m .partitions) ∷ tab rs′ (m .replicas) ∷ tab is′ (m .synced) ∷ [] ≡ y = cc in ap slices (sym u)
+        holds (Walked.Refused c) y q f = not-ok f

@@ -1,0 +1,39 @@
+-- The version first, then the size, then the bytes.
+use Rattle.primitives.proofs.Versions.{passed}
+use Rattle.metadata.proofs.Replies.{measure-at, measure-long, measure-unknown}
+use borrow.Author.Needs.{needs}
+use Rattle.metadata.proofs.response.measure.Statement.{statement}
+use Rattle.metadata.proofs.response.measure.Tie as tie
+
+version-of-requires : tie.Need-version-of-requires
+version-of-requires c κs = search needs
+
+at-requires : tie.Need-at-requires
+at-requires c κs = search needs
+
+returns : tie.Need-returns
+returns c = measure-unknown _ _ (passed _ (c .before .before .before .before .fits .version) _ (c .before .before .version-of .ensures)) _ _ (c .before .if1 .taken) (c .at .ensures)
+
+at-requires-2 : tie.Need-at-requires-2
+at-requires-2 c κs = search needs
+
+returns-2 : tie.Need-returns-2
+returns-2 c = measure-long _ _ (passed _ (c .before .before .before .before .before .fits .version) _ (c .before .before .before .version-of .ensures)) _ _ (c .before .before .if1 .left) (c .before .if2 .taken) (c .at2 .ensures)
+
+walked-requires : tie.Need-walked-requires
+walked-requires c κs = search needs
+
+returns-3 : tie.Need-returns-3
+returns-3 c = measure-at _ _ (passed _ (c .before .before .before .before .before .fits .version) _ (c .before .before .before .version-of .ensures)) (c .before .before .if1 .left) _ _ (c .walked .ensures)
+
+pub measure-spec : {M : Type 1} → statement M
+measure-spec =
+    tie.close
+    (tie.spec
+    version-of-requires
+    at-requires
+    returns
+    at-requires-2
+    returns-2
+    walked-requires
+    returns-3)

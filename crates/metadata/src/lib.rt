@@ -1,0 +1,25 @@
+// Metadata, versions 0 to 4, read: brokers, and topics with their partitions.
+// Numbers are cells, as in the tables: 64 bits, two's complement.
+use fields::Field;
+use primitives::Refusal;
+use versioned::Versioned;
+
+pub mod body;
+pub mod response;
+
+pub use response::read;
+
+// The own row of a response: throttle time (from version 3 on), number of brokers, cluster (from 2 on, and it may be null), controller (from 1 on), and number of topics.
+pub struct ResponseBody {
+    pub throttle: Versioned,
+    pub brokers: u64,
+    pub cluster: Field,
+    pub controller: Versioned,
+    pub topics: u64,
+}
+
+// The own row of a response and the bytes used.
+pub enum ResponseReply {
+    Took { body: ResponseBody, used: usize },
+    Refused(Refusal),
+}

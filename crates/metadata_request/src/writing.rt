@@ -1,0 +1,149 @@
+// The body of a Metadata request, versions 0 to 4: an array of names, or null, and from version 4 on whether topics may be created.
+ghost use mathlib.Core.Path.{_≡_};
+ghost use mathlib.Core.List.{[], _∷_};
+ghost use lib.ListN.{getD, length};
+ghost use Prim.Native.Nat.{_/_, _<_};
+ghost use Rattle.layout.specs.Answers.{writeAlone, writeAnswer};
+ghost use Rattle.layout.specs.Messages.Metadata as Meta;
+ghost use Rattle.layout.specs.Tables.{rowsOf};
+ghost use Rattle.rows.specs.Step.{Capped};
+ghost use Rattle.writers.specs.Answers.{replied};
+ghost use Rattle.metadata_request.specs.Answers.{ofRequest};
+ghost use Rattle.metadata_request.specs.Parts.{arrayBytes, creationBytes, flagOf, nameBytes, namesBytes, requestBytes, requestFault, topicsBytes};
+use crate::Creation;
+use crate::RequestBody;
+use crate::judge::refusal;
+use primitives::MOST;
+use primitives::NO_VERSION;
+use primitives::TOO_LONG;
+use primitives::at;
+use primitives::no_room;
+use primitives::version_of;
+use put::Form;
+use tags_written::part;
+use writers::Written;
+
+// ---- the walk
+
+fn name(out: &mut [u8], lent: &[u8], topics: &[u64], i: usize) -> usize
+    requires { ⌜ i < length (now topics) / 2 ⌝ }
+    ensures { λ r. ⌜ Capped (nameBytes (now (lent .entry)) (getD (rowsOf 2 (now (topics .entry))) i [])) (now (out .entry)) r (now (out .exit)) ⌝ }
+{
+    put::sized(
+        out,
+        Form::Int16,
+        part(lent, topics[i * 2], topics[i * 2 + 1]),
+    )
+}
+
+// Name behind name.
+fn names(out: &mut [u8], lent: &[u8], topics: &[u64]) -> usize
+    ensures { λ r. ⌜ Capped (namesBytes (now (lent .entry)) (now (topics .entry))) (now (out .entry)) r (now (out .exit)) ⌝ }
+{
+    let n = topics.len() / 2;
+    let mut done: usize = 0;
+    let mut i: usize = 0;
+    while i < n {
+        let p = put::behind(done, out.len());
+        let more = name(&mut out[p..], lent, topics, i);
+        done = put::add(done, more);
+        i = i + 1;
+    }
+    done
+}
+
+// The names behind their number.
+fn array(out: &mut [u8], lent: &[u8], topics: &[u64]) -> usize
+    ensures { λ r. ⌜ Capped (arrayBytes (now (lent .entry)) (now (topics .entry))) (now (out .entry)) r (now (out .exit)) ⌝ }
+{
+    let a = put::length(out, Form::Int32, (topics.len() / 2) as u64);
+    let p = put::behind(a, out.len());
+    let b = names(&mut out[p..], lent, topics);
+    put::add(a, b)
+}
+
+// A count of -1 is null, which is not the same as no names.
+fn asked(out: &mut [u8], lent: &[u8], count: u64, topics: &[u64]) -> usize
+    ensures { λ r. ⌜ Capped (topicsBytes (now (lent .entry)) count (now (topics .entry))) (now (out .entry)) r (now (out .exit)) ⌝ }
+{
+    if count == 18446744073709551615 {
+        return put::null(out, Form::Int32);
+    }
+    array(out, lent, topics)
+}
+
+// Auto-creation, where the version has it.
+fn creation(out: &mut [u8], has: bool, flag: bool) -> usize
+    ensures { λ r. ⌜ Capped (creationBytes has flag) (now (out .entry)) r (now (out .exit)) ⌝ }
+{
+    if has {
+        return put::boolean(out, flag);
+    }
+    0
+}
+
+fn body(out: &mut [u8], has: bool, lent: &[u8], count: u64, flag: bool, topics: &[u64]) -> usize
+    ensures { λ r. ⌜ Capped (requestBytes has (now (lent .entry)) count flag (now (topics .entry))) (now (out .entry)) r (now (out .exit)) ⌝ }
+{
+    let a = asked(out, lent, count, topics);
+    let p = put::behind(a, out.len());
+    let b = creation(&mut out[p..], has, flag);
+    put::add(a, b)
+}
+
+// ---- the call
+
+// At a version that is known: judged, measured and written.
+fn written(
+    out: &mut [u8],
+    has: bool,
+    lent: &[u8],
+    count: u64,
+    flag: bool,
+    topics: &[u64],
+) -> Written
+    ensures { λ r. ⌜ replied r (now (out .exit)) ≡ writeAlone (requestFault (now (lent .entry)) (length (now (lent .entry))) count (now (topics .entry))) (requestBytes has (now (lent .entry)) count flag (now (topics .entry))) (now (out .entry)) ⌝ }
+{
+    let e = refusal(lent, count, topics);
+    if e != 0 {
+        return Written::Refused(at(e, 0));
+    }
+    let all = body(&mut out[..0], has, lent, count, flag, topics);
+    if MOST < all {
+        return Written::Refused(at(TOO_LONG, 0));
+    }
+    if out.len() < all {
+        return Written::Refused(no_room(all));
+    }
+    body(out, has, lent, count, flag, topics);
+    Written::Wrote(all)
+}
+
+// Unset, the broker may create topics.
+fn is_allowed(creation: Creation) -> bool
+    ensures { λ r. ⌜ r ≡ flagOf creation ⌝ }
+{
+    match creation {
+        Creation::Unset => true,
+        Creation::Set(flag) => flag,
+    }
+}
+
+// `topics` are rows of start and length of a name in `lent`.
+pub fn write(
+    out: &mut [u8],
+    version: i16,
+    lent: &[u8],
+    body: RequestBody,
+    topics: &[u64],
+) -> Written
+    ensures { λ r. ⌜ replied r (now (out .exit)) ≡ writeAnswer Meta.request version (now (lent .entry)) (ofRequest body ∷ now (topics .entry) ∷ []) (now (out .entry)) ⌝ }
+{
+    let v = version_of(version);
+    if 4 < v {
+        return Written::Refused(at(NO_VERSION, 0));
+    }
+    let creation = body.creation;
+    let flag = is_allowed(creation);
+    written(out, 4 <= v, lent, body.topics, flag, topics)
+}

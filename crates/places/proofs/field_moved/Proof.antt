@@ -1,0 +1,42 @@
+-- The bytes before the rest are used too, and a refusal is where the rest starts.
+use mathlib.Core.Path.{_∙_, ap, sym}
+use Rattle.layout.specs.Reading.{bad}
+use Rattle.fields.specs.Answers.{ofNullable}
+use Rattle.places.specs.Moved.{fromPlace, furtherField}
+use Rattle.places.proofs.TextAt.{field-took}
+use borrow.Author.Needs.{needs}
+use Rattle.places.proofs.field_moved.Statement.{statement}
+use Rattle.places.proofs.field_moved.Tie as tie
+
+enum-known-n : tie.Need-enum-known-n
+enum-known-n c = search needs
+
+start-moved-requires : tie.Need-start-moved-requires
+start-moved-requires c κs = c .before .before .before .pre .start _ _ (ap ofNullable (c .before .n .given .1))
+
+add-t8 : tie.Need-add-t8
+add-t8 c = record { fits = c .before .before .before .before .pre .behind _ _ (ap ofNullable (c .before .before .n .given .1)) }
+
+enum-known-n-2 : tie.Need-enum-known-n-2
+enum-known-n-2 c = search needs
+
+at-requires : tie.Need-at-requires
+at-requires c κs = search needs
+
+returns : tie.Need-returns
+returns c = field-took _ _ _ _ (sym (ap ofNullable (c .before .before .n .given .1))) _ (c .start-moved .ensures)
+
+returns-2 : tie.Need-returns-2
+returns-2 c = ap bad (c .at .ensures) ∙ ap (fromPlace furtherField _) (sym (ap ofNullable (c .before .before .n2 .given .1)))
+
+pub field-moved-spec : {M : Type 1} → statement M
+field-moved-spec =
+    tie.close
+    (tie.spec
+    enum-known-n
+    start-moved-requires
+    add-t8
+    enum-known-n-2
+    at-requires
+    returns
+    returns-2)

@@ -1,0 +1,80 @@
+-- What is left to read from here is what was asked at the start. Every turn takes one from `left`, so the loop ends, if not by a refusal.
+use mathlib.Core.Path.{_≡_, refl}
+use lib.ListN.{length}
+use borrow.Author.Needs.{needs}
+use Rattle.topics.proofs.PartitionTurns.{Left, left-all, left-next, left-no, left-none}
+use Rattle.topics.proofs.partitions.partitions_in.Statement.{statement}
+use Rattle.topics.proofs.partitions.partitions_in.Tie as tie
+
+abbrev Inv-loop : tie.InvT-loop
+Inv-loop s p count partitions₀ replicas₀ synced₀ left₀ place₀ behind₀ partitions replicas synced left place behind = Left s count p partitions₀ replicas₀ synced₀ behind₀ left place partitions replicas synced behind × ((length partitions ≡ length partitions₀) × ((length replicas ≡ length replicas₀) × (length synced ≡ length synced₀)))
+
+abbrev μ-loop : tie.MeasureT-loop
+μ-loop s p count partitions₀ replicas₀ synced₀ left₀ place₀ behind₀ partitions replicas synced left place behind = left
+
+loop-holds : tie.Need-loop-holds Inv-loop μ-loop
+loop-holds c = (left-all _ _ _ _ _ _ _, (refl, (refl, refl)))
+
+partition-at-requires : tie.Need-partition-at-requires Inv-loop μ-loop
+partition-at-requires c κs = tt
+
+enum-known-next : tie.Need-enum-known-next Inv-loop μ-loop
+enum-known-next c = search needs
+
+sub-left : tie.Need-sub-left Inv-loop μ-loop
+sub-left c = search needs
+
+loop-less : tie.Need-loop-less Inv-loop μ-loop
+loop-less c = search needs
+
+loop-again : tie.Need-loop-again Inv-loop μ-loop
+loop-again c = (left-next _ _ _ _ _ _ _ _ _ _ _ _ _ (c .before .before .before .before .before .before .before .before .before .before .before .before .before .before .loop .inv .0) (c .before .before .before .before .before .before .before .before .before .before .before .before .before .loop-test .taken) _ _ _ _ (c .before .before .before .before .before .before .before .before .before .partition-at .ensures) _ _ (c .before .next .given .1), (search needs, (search needs, search needs)))
+
+enum-known-e : tie.Need-enum-known-e Inv-loop μ-loop
+enum-known-e c = search needs
+
+same-length : tie.Need-same-length Inv-loop μ-loop
+same-length c = search needs
+
+same-length-2 : tie.Need-same-length-2 Inv-loop μ-loop
+same-length-2 c = search needs
+
+same-length-3 : tie.Need-same-length-3 Inv-loop μ-loop
+same-length-3 c = search needs
+
+returns : tie.Need-returns Inv-loop μ-loop
+returns c = left-no _ _ _ _ _ _ _ _ _ _ _ _ _ (c .before .before .before .before .before .before .before .before .before .before .before .before .before .before .loop .inv .0) (c .before .before .before .before .before .before .before .before .before .before .before .before .before .loop-test .taken) _ _ _ _ (c .before .before .before .before .before .before .before .before .before .partition-at .ensures) _ (c .before .e .given .1)
+
+same-length-4 : tie.Need-same-length-4 Inv-loop μ-loop
+same-length-4 c = search needs
+
+same-length-5 : tie.Need-same-length-5 Inv-loop μ-loop
+same-length-5 c = search needs
+
+same-length-6 : tie.Need-same-length-6 Inv-loop μ-loop
+same-length-6 c = search needs
+
+returns-2 : tie.Need-returns-2 Inv-loop μ-loop
+returns-2 c = left-none _ _ _ _ _ _ _ _ _ _ _ _ _ (c .before .loop .inv .0) (c .loop-test .left)
+
+pub partitions-in-spec : {M : Type 1} → statement M
+partitions-in-spec =
+    tie.close
+    (tie.spec
+    Inv-loop
+    μ-loop
+    loop-holds
+    partition-at-requires
+    enum-known-next
+    sub-left
+    loop-less
+    loop-again
+    enum-known-e
+    same-length
+    same-length-2
+    same-length-3
+    returns
+    same-length-4
+    same-length-5
+    same-length-6
+    returns-2)

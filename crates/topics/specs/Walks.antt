@@ -1,0 +1,65 @@
+-- What the walks over topics, partitions and nodes say. Table 2 is that of topics, 3 partitions, 4 replicas, 5 in-sync replicas.
+use mathlib.Core.List.{List, [], _∷_}
+use Prim.Native.Nat.{ℕ}
+use Rattle.layout.specs.Reading.{Res, bad, ok}
+use Rattle.primitives.specs.Answers.{ofRefusal}
+use Rattle.rows.specs.Store.{State, Tab, store, tab}
+use Rattle.rows.specs.Walk.{Place, Places}
+use Rattle.topics.specs.declared.Marked.{Marked}
+use Rattle.topics.specs.declared.Marks.{Marks}
+use Rattle.topics.specs.declared.nodes.Counted.{Counted}
+use Rattle.topics.specs.declared.nodes.Nodes.{Nodes}
+use Rattle.topics.specs.declared.partitions.PartitionRow.{PartitionRow}
+use Rattle.topics.specs.declared.topic.TopicRow.{TopicRow}
+
+-- ---- nodes, wherever their table stands among the others
+
+abbrev pub inNodes : List ℕ → ℕ → Place → State
+inNodes l k e = e .h (tab l k)
+
+abbrev pub nodesIs : List ℕ → Nodes → Place → Res State
+nodesIs l (Nodes.Took n k) e = ok (inNodes l k e) n
+nodesIs l (Nodes.Refused c) e = bad (ofRefusal c)
+
+-- the table of the row so far, and that of its nodes
+abbrev pub beside : List ℕ → ℕ → Places × Tab → State
+beside l k e = e .0 .h (e .1) (tab l k)
+
+-- the row has the number of nodes
+abbrev pub besideIs : List ℕ → Counted → Places × Tab → Res State
+besideIs l (Counted.Took c n k) e = ok (e .0 .h (store (e .1) (c ∷ [])) (tab l k)) n
+besideIs l (Counted.Refused c) e = bad (ofRefusal c)
+
+-- ---- partitions and topics: the tables in front may be anything
+
+pub record Before : Type 0 where
+  pub row : Tab
+  pub brokers : Tab
+  pub topics : List ℕ
+
+abbrev pub inPartitions : List ℕ → List ℕ → List ℕ → Marks → Before → State
+inPartitions ps rs is m e = e .row ∷ e .brokers ∷ tab (e .topics) (m .topics) ∷ tab ps (m .partitions) ∷ tab rs (m .replicas) ∷ tab is (m .synced) ∷ []
+
+abbrev pub partitionsIs : List ℕ → List ℕ → List ℕ → Marked → Before → Res State
+partitionsIs ps rs is (Marked.Took n m) e = ok (inPartitions ps rs is m e) n
+partitionsIs ps rs is (Marked.Refused c) e = bad (ofRefusal c)
+
+abbrev pub inTopics : List ℕ → List ℕ → List ℕ → List ℕ → Marks → Tab × Tab → State
+inTopics ts ps rs is m e = e .0 ∷ e .1 ∷ tab ts (m .topics) ∷ tab ps (m .partitions) ∷ tab rs (m .replicas) ∷ tab is (m .synced) ∷ []
+
+abbrev pub topicsIs : List ℕ → List ℕ → List ℕ → List ℕ → Marked → Tab × Tab → Res State
+topicsIs ts ps rs is (Marked.Took n m) e = ok (inTopics ts ps rs is m e) n
+topicsIs ts ps rs is (Marked.Refused c) e = bad (ofRefusal c)
+
+abbrev pub noMarks : Marks
+noMarks = record { topics = 0; partitions = 0; replicas = 0; synced = 0 }
+
+-- ---- the cells in front of arrays
+
+abbrev pub ofPartitionRow : PartitionRow → Res (List ℕ)
+ofPartitionRow (PartitionRow.Took a b c n) = ok (a ∷ b ∷ c ∷ []) n
+ofPartitionRow (PartitionRow.Refused e) = bad (ofRefusal e)
+
+abbrev pub ofTopicRow : TopicRow → Res (List ℕ)
+ofTopicRow (TopicRow.Took a b c d n) = ok (a ∷ b ∷ c ∷ d ∷ []) n
+ofTopicRow (TopicRow.Refused e) = bad (ofRefusal e)

@@ -1,0 +1,2 @@
+-- a field that the version may lack, read alone
+pub mod Alone

@@ -1,0 +1,31 @@
+-- The cells of fields that a version may lack. In front of a text, and of a number that is unset in some way, stands a kind: 0 absent, 1 null, 2 present.
+use mathlib.Core.List.{List, [], _∷_}
+use Prim.Native.Nat.{ℕ}
+use Rattle.layout.specs.Reading.{Res, bad, ok}
+use Rattle.primitives.specs.Answers.{ofRefusal}
+use Rattle.primitives.specs.declared.Number.{Number}
+use Rattle.fields.specs.declared.Field.{Field}
+use Rattle.fields.specs.declared.Nullable.{Nullable}
+use Rattle.versioned.specs.declared.Version.{Version}
+use Rattle.versioned.specs.declared.Versioned.{Versioned}
+
+abbrev pub versionedCells : Versioned → List ℕ
+versionedCells Versioned.Absent = 0 ∷ 0 ∷ []
+versionedCells (Versioned.Present n) = 2 ∷ n ∷ []
+
+abbrev pub fieldCells : Field → List ℕ
+fieldCells Field.Absent = 0 ∷ 0 ∷ 0 ∷ []
+fieldCells Field.Null = 1 ∷ 0 ∷ 0 ∷ []
+fieldCells (Field.Present a k) = 2 ∷ a ∷ k ∷ []
+
+abbrev pub ofVersion : Version → Res (List ℕ)
+ofVersion (Version.Took x n) = ok (versionedCells x) n
+ofVersion (Version.Refused e) = bad (ofRefusal e)
+
+abbrev pub ofCell : Number → Res (List ℕ)
+ofCell (Number.Took c n) = ok (c ∷ []) n
+ofCell (Number.Refused e) = bad (ofRefusal e)
+
+abbrev pub ofText : Nullable → Res (List ℕ)
+ofText (Nullable.Took f n) = ok (fieldCells f) n
+ofText (Nullable.Refused e) = bad (ofRefusal e)

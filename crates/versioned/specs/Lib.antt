@@ -1,0 +1,2 @@
+-- the cells of fields that a version may lack
+pub mod Cells

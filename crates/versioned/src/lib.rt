@@ -1,0 +1,80 @@
+// Fields that a version may lack, at a place of a message: read where the version has them, and absent where it does not.
+ghost use mathlib.Core.Path.{_≡_};
+ghost use mathlib.Core.List.{[], _∷_};
+ghost use Rattle.layout.specs.Primitives.{fixed, kept, w16, w32};
+ghost use Rattle.layout.specs.Rows.{boolean, end, number, optional, stands, text};
+ghost use Rattle.primitives.specs.Answers.{ofNumber};
+ghost use Rattle.rows.specs.Walk.{on, rowFrom};
+ghost use Rattle.versioned.specs.Cells.{ofCell, ofText, ofVersion};
+use fields::Field;
+use fields::Nullable;
+use places::boolean_at;
+use places::int32_at;
+use places::nullable_string_at;
+use primitives::Flag;
+use primitives::Number;
+use primitives::Refusal;
+
+// The cell of -1: a Boolean that the version lacks.
+const ABSENT: u64 = 18446744073709551615;
+
+// A number that a version may lack, or a writer leave unset.
+pub enum Versioned {
+    Absent,
+    Present(u64),
+}
+
+// It, and the place behind it.
+pub enum Version {
+    Took { value: Versioned, next: usize },
+    Refused(Refusal),
+}
+
+pub fn int32_if(s: &[u8], p: usize, there: bool) -> Version
+    ensures { λ r. ⌜ ofVersion r ≡ on (rowFrom [] (stands there (optional (0 ∷ []) (number w32)) end)) (now (s .entry)) p ⌝ }
+{
+    if !there {
+        return Version::Took {
+            value: Versioned::Absent,
+            next: p,
+        };
+    }
+    match int32_at(s, p) {
+        Number::Took { value, used } => Version::Took {
+            value: Versioned::Present(value),
+            next: used,
+        },
+        Number::Refused(e) => Version::Refused(e),
+    }
+}
+
+// As a cell: 0 or 1, and -1 where the version lacks it.
+pub fn boolean_if(s: &[u8], p: usize, there: bool) -> Number
+    ensures { λ r. ⌜ ofCell r ≡ on (rowFrom [] (stands there boolean end)) (now (s .entry)) p ⌝ }
+{
+    if !there {
+        return Number::Took {
+            value: ABSENT,
+            used: p,
+        };
+    }
+    match boolean_at(s, p) {
+        Flag::Took { value, used } => Number::Took {
+            value: if value { 1 } else { 0 },
+            used,
+        },
+        Flag::Refused(e) => Number::Refused(e),
+    }
+}
+
+pub fn nullable_string_if(s: &[u8], p: usize, there: bool) -> Nullable
+    ensures { λ r. ⌜ ofText r ≡ on (rowFrom [] (stands there (text (fixed w16 kept)) end)) (now (s .entry)) p ⌝ }
+{
+    if !there {
+        return Nullable::Took {
+            field: Field::Absent,
+            used: p,
+        };
+    }
+    nullable_string_at(s, p)
+}
