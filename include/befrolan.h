@@ -2,8 +2,8 @@
  *
  * The functions hold no state, allocate nothing and keep no pointer. Every answer is a struct of numbers.
  * Each function's promise, which the prover has checked, stands at its definition: crates/gateway/src, and for the bodies
- * of a message crates/gateway_api_versions/src. All of them are linked from target/staticlib/libbefrolan.a, which
- * tools/staticlib makes.
+ * of a message crates/gateway_api_versions/src and crates/gateway_metadata/src. All of them are linked from
+ * target/staticlib/libbefrolan.a, which tools/staticlib makes.
  *
  * Slices. A slice is two parameters: a pointer, and how many elements there are. An empty slice has the length 0
  * and still a pointer that is not null and is aligned for its element. What is lent to be written to must not
@@ -44,8 +44,8 @@ enum {
     BEFROLAN_NO_ROOM = 10,          /* a table or the output is too small; `need` tells the rows or bytes needed. Place 0 */
     BEFROLAN_TOO_WIDE = 11,         /* a number that its type cannot hold; a text or data too long for its length. Its start */
     BEFROLAN_GROUP_TOO_WIDE = 12,   /* kept from the ported code; no call gives it */
-    BEFROLAN_BAD_TABLES = 13        /* counts that do not add up to the rows, or below -1, or -1 where there is no unset;
-                                       a part outside the lent bytes. Place 0 */
+    BEFROLAN_BAD_TABLES = 13        /* counts that do not add up to the rows, or below -1, or -1 where there is neither
+                                       null nor unset; a part outside the lent bytes. Place 0 */
 };
 
 /* No message and no written body has more bytes. */
@@ -63,7 +63,29 @@ enum {
 /* The number of tags where they are absent in the version or unset. */
 #define BEFROLAN_UNSET (-1)
 
-/* Of a throttle time and of a request's text: absent in the version or unset, or there.
+/* A broker of a Metadata response: node, start and length of its host, port, and kind, start and length of its rack
+ * (BEFROLAN_ABSENT at version 0, BEFROLAN_NULL or BEFROLAN_PRESENT from 1 on). */
+#define BEFROLAN_BROKER_CELLS 7
+
+/* A topic of a Metadata response: error, start and length of its name, whether it is internal (1 or 0; -1 at version 0,
+ * which does not tell), number of its partitions. */
+#define BEFROLAN_TOPIC_CELLS 5
+
+/* A partition of a Metadata response: error, index, node of its leader, number of its replicas, number of those in sync
+ * (each BEFROLAN_NULL_COUNT where the array is null). */
+#define BEFROLAN_PARTITION_CELLS 5
+
+/* A replica, and one in sync: its node. */
+#define BEFROLAN_REPLICA_CELLS 1
+
+/* A topic of a Metadata request: start and length of its name. */
+#define BEFROLAN_NAME_CELLS 2
+
+/* The number of replicas, of those in sync, and of a request's topics, where the array is null and not just empty. */
+#define BEFROLAN_NULL_COUNT (-1)
+
+/* Kinds. Of a throttle time, a controller, a request's text and a request's auto-creation: absent in the version or
+ * unset, or there. Of a rack and a cluster: absent in the version, BEFROLAN_NULL (1), or there.
  * To a writer any kind but 0 means that it is there. */
 #define BEFROLAN_ABSENT 0
 #define BEFROLAN_PRESENT 2
@@ -102,6 +124,26 @@ typedef struct {
     int64_t throttle;
     int64_t tags;          /* the body's own, behind those of the items; BEFROLAN_UNSET where the version has none */
 } befrolan_response_numbers;
+
+/* Of a Metadata response that was read. What is absent or null has 0 behind its kind. */
+typedef struct {
+    int64_t number, place, need, used;
+    int64_t throttle_kind;   /* BEFROLAN_ABSENT or BEFROLAN_PRESENT */
+    int64_t throttle;
+    int64_t brokers;         /* how many; a null array is none */
+    int64_t cluster_kind;    /* BEFROLAN_ABSENT, BEFROLAN_NULL or BEFROLAN_PRESENT */
+    int64_t cluster_start, cluster_length;
+    int64_t controller_kind; /* BEFROLAN_ABSENT or BEFROLAN_PRESENT */
+    int64_t controller;      /* a node */
+    int64_t topics;          /* how many; a null array is none */
+} befrolan_metadata_numbers;
+
+/* Of the lookup of a host. `found` is 1 where a broker has the node, also where its host is empty, and 0 where none has. */
+typedef struct {
+    int64_t number, place, need;
+    int64_t found;
+    int64_t start, length; /* of the host, a part of the message */
+} befrolan_host_numbers;
 
 /* Of an ApiVersions request that was read: the client's name and its version, each with kind, start and length. */
 typedef struct {
@@ -151,6 +193,38 @@ befrolan_numbers befrolan_write_api_versions_request(
  * chosen version and broker's maximum, for ApiVersions (18), Metadata (3) and Fetch (1). The first row of a key
  * decides. The choice is the highest common version, -1 if there is none; a key that is not listed has the maximum -1. */
 void befrolan_agree(const int64_t *items, size_t items_len, int64_t rows[9]);
+
+/* ---- Metadata, versions 0 to 4 */
+
+/* Reads a response at the front of the message. Rows stand as in the body: the partitions of the first topic, then those
+ * of the second; so too the replicas of each partition, and those in sync, which have a table each. Where tables are too
+ * small, `need` is the rows of the first of them, in the order of the parameters. */
+befrolan_metadata_numbers befrolan_read_metadata_response(
+    const uint8_t *msg, size_t msg_len,
+    int16_t version,
+    int64_t *brokers, size_t brokers_len,
+    int64_t *topics, size_t topics_len,
+    int64_t *partitions, size_t partitions_len,
+    int64_t *replicas, size_t replicas_len,
+    int64_t *in_sync, size_t in_sync_len);
+
+/* Writes a request. `body`: number of topics, or BEFROLAN_NULL_COUNT for null, which brokers take as all topics from
+ * version 1 on; kind of the auto-creation of topics (0 unset, any other set); its flag (0 false, any other true).
+ * Below version 4 auto-creation is dropped; unset it is written as true. `topics` has a row for each name, a part of
+ * `lent`. */
+befrolan_numbers befrolan_write_metadata_request(
+    uint8_t *out, size_t out_len,
+    int16_t version,
+    const uint8_t *lent, size_t lent_len,
+    const int64_t body[3],
+    const int64_t *topics, size_t topics_len);
+
+/* Finds the host of a node, in a message that is read as a Metadata response: that of the first broker with the node.
+ * What befrolan_read_metadata_response refuses is refused alike, but with no tables there is no BEFROLAN_NO_ROOM. */
+befrolan_host_numbers befrolan_find_host(
+    const uint8_t *msg, size_t msg_len,
+    int16_t version,
+    int64_t node);
 
 /* ---- primitives, each by itself */
 

@@ -1,4 +1,5 @@
-/* Reads the ApiVersions response that a broker sent at version 0, agrees on versions, and writes the response back.
+/* Reads the ApiVersions response that a broker sent at version 0, agrees on versions, and writes the response back. Then
+ * asks for a topic at the version agreed on, reads the answer, and finds the host of the node that leads its partition.
  * Exits with 1 where anything is not as it should be.
  *
  *     tools/staticlib
@@ -9,43 +10,95 @@
 #include <stdio.h>
 #include <string.h>
 
-int main(void)
+/* error 0, two items: ApiVersions (18), versions 0 to 3; Metadata (3), versions 0 and 1 */
+static const uint8_t offer[18] = {0, 0, 0, 0, 0, 2, 0, 18, 0, 0, 0, 3, 0, 3, 0, 0, 0, 1};
+
+/* at version 1: broker 1 with host "h", port 9092 and no rack; controller 1; topic "t", whose partition 0 is led by
+ * broker 1, with replicas 1 and 2, and null for those in sync */
+static const uint8_t answer[61] = {
+    0, 0, 0, 1, 0, 0, 0, 1, 0, 1, 'h', 0, 0, 0x23, 0x84, 0xff, 0xff,
+    0, 0, 0, 1,
+    0, 0, 0, 1, 0, 0, 0, 1, 't', 0, 0, 0, 0, 1,
+    0, 0, 0, 0, 0, 0, 0, 0, 0, 1, 0, 0, 0, 2, 0, 0, 0, 1, 0, 0, 0, 2, 0xff, 0xff, 0xff, 0xff};
+
+/* the version of Metadata agreed on, or -1 */
+static int64_t agreed(void)
 {
-    /* error 0, one item: ApiVersions (18), versions 0 to 3 */
-    static const uint8_t msg[12] = {0, 0, 0, 0, 0, 1, 0, 18, 0, 0, 0, 3};
     int64_t items[4 * BEFROLAN_ITEM_CELLS];
     int64_t tags[4 * BEFROLAN_TAG_CELLS];
 
     befrolan_response_numbers r =
-        befrolan_read_api_versions_response(msg, sizeof msg, 0, 1, items, 16, tags, 12);
+        befrolan_read_api_versions_response(offer, sizeof offer, 0, 1, items, 16, tags, 12);
     if (r.number != BEFROLAN_ACCEPTED) {
         printf("refused with %lld at %lld\n", (long long)r.number, (long long)r.place);
-        return 1;
+        return -1;
     }
     for (int64_t i = 0; i < r.items; i++)
         printf("API %lld: versions %lld to %lld\n", (long long)items[4 * i], (long long)items[4 * i + 1],
                (long long)items[4 * i + 2]);
-    if (r.used != 12 || r.error != 0 || r.items != 1 || r.throttle_kind != BEFROLAN_ABSENT || r.tags != BEFROLAN_UNSET)
-        return 1;
-    if (items[0] != 18 || items[1] != 0 || items[2] != 3 || items[3] != BEFROLAN_UNSET)
-        return 1;
+    if (r.used != 18 || r.error != 0 || r.items != 2 || r.throttle_kind != BEFROLAN_ABSENT || r.tags != BEFROLAN_UNSET)
+        return -1;
+    static const int64_t listed[8] = {18, 0, 3, BEFROLAN_UNSET, 3, 0, 1, BEFROLAN_UNSET};
+    if (memcmp(items, listed, sizeof listed) != 0)
+        return -1;
 
     int64_t rows[9];
     befrolan_agree(items, (size_t)r.items * BEFROLAN_ITEM_CELLS, rows);
     for (int i = 0; i < 3; i++)
         printf("API %lld: we speak %lld, the broker up to %lld\n", (long long)rows[3 * i], (long long)rows[3 * i + 1],
                (long long)rows[3 * i + 2]);
-    static const int64_t agreed[9] = {18, 3, 3, 3, -1, -1, 1, -1, -1};
-    if (memcmp(rows, agreed, sizeof rows) != 0)
-        return 1;
+    static const int64_t spoken[9] = {18, 3, 3, 3, 1, 1, 1, -1, -1};
+    if (memcmp(rows, spoken, sizeof rows) != 0)
+        return -1;
 
     /* the own row, as it was read; no data are lent, so an empty slice with a pointer that is not null */
     int64_t body[5] = {r.error, r.items, r.throttle_kind, r.throttle, r.tags};
     uint8_t out[64];
-    befrolan_numbers w = befrolan_write_api_versions_response(out, sizeof out, 0, msg, 0, body, items,
-                                                              BEFROLAN_ITEM_CELLS, tags, 0);
-    if (w.number != BEFROLAN_ACCEPTED || w.used != (int64_t)sizeof msg || memcmp(out, msg, sizeof msg) != 0)
-        return 1;
+    befrolan_numbers w = befrolan_write_api_versions_response(out, sizeof out, 0, offer, 0, body, items,
+                                                              2 * BEFROLAN_ITEM_CELLS, tags, 0);
+    if (w.number != BEFROLAN_ACCEPTED || w.used != (int64_t)sizeof offer || memcmp(out, offer, sizeof offer) != 0)
+        return -1;
     printf("written back: %lld bytes, the same\n", (long long)w.used);
-    return 0;
+    return rows[4];
+}
+
+/* asks for the topic "t"; auto-creation is unset */
+static int asked(int16_t version)
+{
+    static const uint8_t name[1] = {'t'}, request[7] = {0, 0, 0, 1, 0, 1, 't'};
+    static const int64_t body[3] = {1, BEFROLAN_ABSENT, 0}, topics[BEFROLAN_NAME_CELLS] = {0, 1};
+    uint8_t out[64];
+    befrolan_numbers w = befrolan_write_metadata_request(out, sizeof out, version, name, sizeof name, body, topics,
+                                                         BEFROLAN_NAME_CELLS);
+    return w.number == BEFROLAN_ACCEPTED && w.used == 7 && memcmp(out, request, sizeof request) == 0;
+}
+
+/* finds the host of the node that leads the first partition */
+static int found(int16_t version)
+{
+    int64_t brokers[4 * BEFROLAN_BROKER_CELLS], topics[4 * BEFROLAN_TOPIC_CELLS];
+    int64_t partitions[4 * BEFROLAN_PARTITION_CELLS], replicas[8], in_sync[8];
+
+    befrolan_metadata_numbers r = befrolan_read_metadata_response(answer, sizeof answer, version, brokers, 28, topics, 20,
+                                                                  partitions, 20, replicas, 8, in_sync, 8);
+    if (r.number != BEFROLAN_ACCEPTED) {
+        printf("refused with %lld at %lld\n", (long long)r.number, (long long)r.place);
+        return 0;
+    }
+    if (r.used != 61 || r.brokers != 1 || r.topics != 1 || topics[4] != 1 || partitions[2] != 1)
+        return 0;
+    befrolan_host_numbers h = befrolan_find_host(answer, sizeof answer, version, partitions[2]);
+    if (h.number != BEFROLAN_ACCEPTED || h.found != 1 || h.start != 10 || h.length != 1)
+        return 0;
+    printf("partition %lld is led by node %lld, at %.*s\n", (long long)partitions[1], (long long)partitions[2],
+           (int)h.length, (const char *)answer + h.start);
+    return 1;
+}
+
+int main(void)
+{
+    int64_t version = agreed();
+    if (version != 1)
+        return 1;
+    return asked((int16_t)version) && found((int16_t)version) ? 0 : 1;
 }

@@ -1,0 +1,127 @@
+// Metadata responses: a body's own row is throttle time (kind, number), number of brokers, cluster (kind, start, length), controller (kind, number), number of topics.
+ghost use mathlib.Core.Path.{_≡_};
+ghost use mathlib.Core.List.{[], _∷_};
+ghost use lib.ListN.{getD};
+ghost use Rattle.layout.specs.Answers.{accepted, prefixRead};
+ghost use Rattle.layout.specs.Messages.Metadata as Meta;
+ghost use Rattle.versioned.specs.Cells.{fieldCells, versionedCells};
+ghost use Rattle.metadata.specs.Answers.{ofResponse, ofResponseReply};
+ghost use Rattle.gateway.specs.Replies.{told};
+ghost use Rattle.gateway_metadata.specs.Replies.{metadataNumbers};
+use crate::MetadataNumbers;
+use fields::Field;
+use metadata::ResponseBody;
+use metadata::ResponseReply;
+use versioned::Versioned;
+
+// 0 where it is absent, 2 where it is there.
+fn there(x: Versioned) -> u64
+    ensures { λ r. ⌜ r ≡ getD (versionedCells x) 0 0 ⌝ }
+{
+    match x {
+        Versioned::Absent => 0,
+        Versioned::Present(_) => 2,
+    }
+}
+
+fn number(x: Versioned) -> u64
+    ensures { λ r. ⌜ r ≡ getD (versionedCells x) 1 0 ⌝ }
+{
+    match x {
+        Versioned::Absent => 0,
+        Versioned::Present(n) => n,
+    }
+}
+
+// 0 where it is absent, 1 where it is null, 2 where it is there.
+fn kind(f: Field) -> u64
+    ensures { λ r. ⌜ r ≡ getD (fieldCells f) 0 0 ⌝ }
+{
+    match f {
+        Field::Absent => 0,
+        Field::Null => 1,
+        Field::Present { start: _, len: _ } => 2,
+    }
+}
+
+fn start(f: Field) -> u64
+    ensures { λ r. ⌜ r ≡ getD (fieldCells f) 1 0 ⌝ }
+{
+    match f {
+        Field::Absent => 0,
+        Field::Null => 0,
+        Field::Present { start, len: _ } => start as u64,
+    }
+}
+
+fn length(f: Field) -> u64
+    ensures { λ r. ⌜ r ≡ getD (fieldCells f) 2 0 ⌝ }
+{
+    match f {
+        Field::Absent => 0,
+        Field::Null => 0,
+        Field::Present { start: _, len } => len as u64,
+    }
+}
+
+fn accepted(body: ResponseBody, used: usize) -> MetadataNumbers
+    ensures { λ r. ⌜ r ≡ metadataNumbers (accepted (ofResponse body) used) ⌝ }
+{
+    let throttle = body.throttle;
+    let cluster = body.cluster;
+    let controller = body.controller;
+    MetadataNumbers {
+        number: 0,
+        place: 0,
+        need: 0,
+        used: used as u64,
+        timed: there(throttle),
+        throttle: number(throttle),
+        brokers: body.brokers,
+        clustered: kind(cluster),
+        cstart: start(cluster),
+        clength: length(cluster),
+        controlled: there(controller),
+        controller: number(controller),
+        topics: body.topics,
+    }
+}
+
+// What the reader answers, as numbers.
+fn reply(r: ResponseReply) -> MetadataNumbers
+    ensures { λ n. ⌜ n ≡ metadataNumbers (ofResponseReply r) ⌝ }
+{
+    match r {
+        ResponseReply::Took { body, used } => accepted(body, used),
+        ResponseReply::Refused(e) => MetadataNumbers {
+            number: e.number as u64,
+            place: e.place as u64,
+            need: e.need as u64,
+            used: 0,
+            timed: 0,
+            throttle: 0,
+            brokers: 0,
+            clustered: 0,
+            cstart: 0,
+            clength: 0,
+            controlled: 0,
+            controller: 0,
+            topics: 0,
+        },
+    }
+}
+
+#[no_mangle]
+pub extern "C" fn befrolan_read_metadata_response(
+    msg: &[u8],
+    version: i16,
+    brokers: &mut [u64],
+    topics: &mut [u64],
+    partitions: &mut [u64],
+    replicas: &mut [u64],
+    synced: &mut [u64],
+) -> MetadataNumbers
+    ensures { λ r. ⌜ (r, now (brokers .exit) ∷ now (topics .exit) ∷ now (partitions .exit) ∷ now (replicas .exit) ∷ now (synced .exit) ∷ []) ≡ told metadataNumbers (prefixRead Meta.response version (now (brokers .entry) ∷ now (topics .entry) ∷ now (partitions .entry) ∷ now (replicas .entry) ∷ now (synced .entry) ∷ []) (now (msg .entry))) ⌝ }
+{
+    reply(metadata::read(msg, version, brokers, topics, partitions, replicas, synced))
+}
