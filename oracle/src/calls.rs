@@ -1,8 +1,8 @@
 //! The calls of docs/ANSWERS.md, each with the rules' side and the Rust's. A new message is lines here.
 use crate::line::Refusal;
 use crate::model::primitives::{Form, Null, Primitive};
-use crate::model::write::Given;
-use crate::model::{api_versions, primitives, write, Shown};
+use crate::model::write::{Given, Own};
+use crate::model::{api_versions, metadata, primitives, write, Shown};
 use crate::rust;
 use crate::token::Token;
 
@@ -88,6 +88,17 @@ pub static REQUEST_READ: ReadBody = ReadBody {
     rust: rust::api_versions::read_request,
 };
 
+/// The Metadata response.
+pub static METADATA_READ: ReadBody = ReadBody {
+    name: "metadata_read",
+    last: Some(metadata::LAST),
+    widths: &metadata::WIDTHS,
+    whole: false,
+    model: metadata::read_response,
+    spell: metadata::spell_response,
+    rust: rust::metadata::read_response,
+};
+
 /// A write from tables.
 pub struct WriteBody {
     pub name: &'static str,
@@ -95,6 +106,13 @@ pub struct WriteBody {
     /// 13, 7 and 11, or the bytes; neither size nor room is judged.
     pub model: fn(i16, &Given) -> Result<Vec<u8>, Refusal>,
     pub rust: fn(i16, &Given) -> Result<rust::Written, rust::Silence>,
+    /// Entry 4: where a field is set that the Rust refuses at the version and the rules drop, the own words without it.
+    pub unavailable: fn(i16, &Given) -> Option<Vec<Own>>,
+}
+
+/// Of every field but auto-creation.
+pub fn never(_version: i16, _given: &Given) -> Option<Vec<Own>> {
+    None
 }
 
 pub static WRITE_TAGGED_FIELDS: WriteBody = WriteBody {
@@ -102,6 +120,7 @@ pub static WRITE_TAGGED_FIELDS: WriteBody = WriteBody {
     last: None,
     model: write::write_tagged_fields,
     rust: rust::primitives::write_tagged_fields,
+    unavailable: never,
 };
 
 pub static RESPONSE_WRITE: WriteBody = WriteBody {
@@ -109,6 +128,7 @@ pub static RESPONSE_WRITE: WriteBody = WriteBody {
     last: Some(api_versions::LAST),
     model: api_versions::write_response,
     rust: rust::api_versions::write_response,
+    unavailable: never,
 };
 
 pub static REQUEST_WRITE: WriteBody = WriteBody {
@@ -116,4 +136,14 @@ pub static REQUEST_WRITE: WriteBody = WriteBody {
     last: Some(api_versions::LAST),
     model: api_versions::write_request,
     rust: rust::api_versions::write_request,
+    unavailable: never,
+};
+
+/// The Metadata request.
+pub static METADATA_REQUEST_WRITE: WriteBody = WriteBody {
+    name: "metadata_request_write",
+    last: Some(metadata::LAST),
+    model: metadata::write_request,
+    rust: rust::metadata::write_request,
+    unavailable: metadata::without_creation,
 };

@@ -37,6 +37,11 @@ pub enum Case {
         tables: Vec<Vec<i64>>,
     },
     Agree(Vec<i64>),
+    Host {
+        version: i16,
+        node: i64,
+        message: Vec<u8>,
+    },
 }
 
 impl Case {
@@ -50,6 +55,7 @@ impl Case {
             Case::ReadBody { call, .. } => call.name,
             Case::WriteBody { call, .. } => call.name,
             Case::Agree(_) => "agree",
+            Case::Host { .. } => "host",
         }
     }
 
@@ -58,6 +64,7 @@ impl Case {
         match self {
             Case::ReadBody { call, version, .. } => call.last.and(Some(*version)),
             Case::WriteBody { call, version, .. } => call.last.and(Some(*version)),
+            Case::Host { version, .. } => Some(*version),
             _ => None,
         }
     }
@@ -92,6 +99,10 @@ impl Case {
                 tables.iter().for_each(|cells| put_table(line, cells));
             }
             Case::Agree(cells) => put_table(line, cells),
+            Case::Host { version, node, message } => {
+                write!(line, " {version} {node}").unwrap();
+                put(line, message);
+            }
         }
     }
 
@@ -128,6 +139,7 @@ fn put_own(line: &mut Vec<u8>, own: &Own) {
     match own {
         Own::Number(n) => write!(line, " {n}").unwrap(),
         Own::Part(start, length) => write!(line, " {}:{}", *start as u64, *length as u64).unwrap(),
+        Own::Flag(flag) => write!(line, " {}", u8::from(*flag)).unwrap(),
         Own::Absent => line.extend(b" absent"),
     }
 }

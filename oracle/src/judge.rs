@@ -5,7 +5,7 @@ use crate::case::Case;
 use crate::line::{Answer, Refusal, Word};
 use crate::model::primitives::Primitive;
 use crate::model::write::Given;
-use crate::model::{agreement, in_order, judge_version, laid, primitives, stored, text, write, Shown};
+use crate::model::{agreement, in_order, judge_version, laid, metadata, primitives, stored, text, write, Shown};
 use crate::rust::{self, Heard, Silence};
 use crate::token::Token;
 
@@ -47,9 +47,10 @@ pub fn judge(case: &Case) -> Verdict<'_> {
         Case::Read { call, message } => judge_read(call.primitive, message),
         Case::Write { call, room, value } => {
             let made = write::write(call.primitive, value);
-            judge_written(&made, *room, 0, None, || rust::primitives::write(call.primitive, value))
+            judge_written(&made, *room, (0, None), false, || rust::primitives::write(call.primitive, value))
         }
         Case::ReadBody { call, version, rooms, message } => judge_body(call, *version, rooms, message),
+        Case::Host { version, node, message } => judge_host(*version, *node, message),
         Case::WriteBody { call, room, version, .. } => {
             judge_body_written(call, *room, *version, &case.given().expect("a write from tables"))
         }
@@ -160,10 +161,7 @@ fn judge_body<'a>(call: &ReadBody, version: i16, rooms: &[usize], message: &'a [
     };
     let spelled = prefix.map(|shown| ((call.spell)(&shown, message), shown.used));
     let heard = (call.rust)(version, message);
-    let same = match outside {
-        Some(2) => is_assertion(&heard, last),
-        _ => is_same_read(&spelled, &heard),
-    };
+    let same = is_same_at(outside, last, &spelled, &heard);
     let entry = match number {
         2 => Some(5),
         8 if spelled.is_ok() => Some(9),
@@ -179,32 +177,76 @@ fn judge_body<'a>(call: &ReadBody, version: i16, rooms: &[usize], message: &'a [
     }
 }
 
+/// Above the range the Rust stops before the first byte; elsewhere it reads what the rules do.
+fn is_same_at(
+    outside: Option<u8>,
+    last: i16,
+    rules: &Result<(Vec<Token>, usize), Refusal>,
+    heard: &rust::Read,
+) -> bool {
+    match outside {
+        Some(2) => is_assertion(heard, last),
+        _ => is_same_read(rules, heard),
+    }
+}
+
+/// The lookup: the prefix read's refusal but for 10, or the host. The bytes used are compared, though not shown.
+fn judge_host(version: i16, node: i64, message: &[u8]) -> Verdict<'_> {
+    let last = metadata::LAST;
+    let outside = entry_of_version(Some(last), version);
+    let found = metadata::host(version.clamp(0, last), node, message);
+    let judged = in_order(judge_version(last, version), message.len(), &found, false, &[], &[]);
+    let entry = (number_of(&judged) == 2).then_some(5);
+    let reply = judged.map(|shown| shown.own.clone());
+    let spelled = found.map(|shown| (primitives::spell(&shown, message), shown.used));
+    let heard = rust::metadata::host(version, node, message);
+    Verdict {
+        answer: Answer { reply, lent: vec![] },
+        voice: Voice::Rust,
+        entry: outside.or(entry),
+        complaint: (!is_same_at(outside, last, &spelled, &heard)).then(|| told(&heard)),
+    }
+}
+
 fn judge_body_written<'a>(call: &WriteBody, room: usize, version: i16, given: &Given) -> Verdict<'a> {
     let last = call.last.unwrap_or(0);
     let made = (call.model)(version.clamp(0, last), given);
     // Tables that contradict themselves have no counterpart among the Rust's nested values.
     let torn = made.as_ref().is_err_and(|no| no.number == 13);
-    judge_written(&made, room, version, call.last, || {
+    let unset = (call.unavailable)(version, given);
+    let mut verdict = judge_written(&made, room, (version, call.last), unset.is_some(), || {
         if torn {
             Err(Silence::CannotHold)
         } else {
             (call.rust)(version, given)
         }
-    })
+    });
+    if let (Some(own), Voice::Rust, None) = (unset, verdict.voice, &verdict.complaint) {
+        verdict.complaint = complaint_unset(call, version, &Given { own: &own, ..*given }, &made);
+    }
+    verdict
 }
 
-/// A write: `made` is what the rules make of the fields at the version, or the nearest one that there is.
+/// Entry 4: without the field that it refuses, the Rust writes what the rules do with it.
+fn complaint_unset(call: &WriteBody, version: i16, unset: &Given, made: &Result<Vec<u8>, Refusal>) -> Option<String> {
+    let heard = (call.rust)(version, unset).ok()?;
+    (!is_same_written(made, &heard)).then(|| told(&heard))
+}
+
+/// A write: `made` is what the rules make of the fields at the version, or the nearest one that there is. Entry 4: a set field
+/// that the version lacks, unavailable, is refused by the Rust and dropped by the rules.
 fn judge_written<'a>(
     made: &Result<Vec<u8>, Refusal>,
     room: usize,
-    version: i16,
-    last: Option<i16>,
+    (version, last): (i16, Option<i16>),
+    unavailable: bool,
     ask: impl FnOnce() -> Result<rust::Written, Silence>,
 ) -> Verdict<'a> {
     let outside = entry_of_version(last, version);
     let offered = judge_version(last.unwrap_or(0), version).and(made.as_deref().map_err(|no| *no));
     let (reply, output) = stored(offered, room);
     let entry = match number_of(&reply) {
+        _ if unavailable && made.is_ok() => Some(4),
         2 => Some(5),
         10 => Some(7),
         _ => None,
@@ -218,6 +260,7 @@ fn judge_written<'a>(
         Ok(heard) => {
             let same = match outside {
                 Some(2) => is_assertion(&heard, last.unwrap_or(0)),
+                _ if unavailable => heard == Heard::Refused,
                 _ => is_same_written(made, &heard),
             };
             Verdict { answer, voice: Voice::Rust, entry: outside.or(entry), complaint: (!same).then(|| told(&heard)) }

@@ -15,6 +15,8 @@ pub enum Word<'a> {
     Part(usize, &'a [u8]),
     Null,
     Absent,
+    /// No host.
+    None,
 }
 
 /// What a call was lent, as it is afterwards: the front is written, the rest has its fill.
@@ -81,6 +83,7 @@ pub fn put_word(line: &mut Vec<u8>, word: &Word) {
         }
         Word::Null => line.extend(b"null"),
         Word::Absent => line.extend(b"absent"),
+        Word::None => line.extend(b"none"),
     }
 }
 

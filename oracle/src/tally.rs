@@ -8,10 +8,11 @@ use std::fmt::{Display, Formatter, Result};
 const MOST_SHOWN: usize = 20;
 
 /// The entries of docs/DIFFERENCES.md that an input can fall under here.
-const ENTRIES: [(u8, &str); 8] = [
+const ENTRIES: [(u8, &str); 9] = [
     (1, "versions below 0"),
     (2, "versions above the range"),
     (3, "compact bytes of length 0"),
+    (4, "auto-creation set below version 4"),
     (5, "over 1,048,576 bytes"),
     (7, "too little room"),
     (9, "null items, whole read"),
@@ -19,11 +20,24 @@ const ENTRIES: [(u8, &str); 8] = [
     (12, "values that the Rust's types cannot hold"),
 ];
 
+/// Of one call.
+#[derive(Default)]
+struct Counts {
+    /// How many answers of each number, `ok` being 0.
+    answers: [u64; 14],
+    voices: [u64; 3],
+}
+
+const VOICES: [(Voice, &str); 3] = [
+    (Voice::Rust, "the Rust was asked"),
+    (Voice::StandardLibrary, "the standard library was asked"),
+    (Voice::RulesAlone, "rules alone"),
+];
+
 #[derive(Default)]
 pub struct Tally {
     inputs: u64,
-    /// By call: how many answers of each number, `ok` being 0.
-    answers: BTreeMap<&'static str, [u64; 14]>,
+    calls: BTreeMap<&'static str, Counts>,
     voices: [u64; 3],
     entries: [u64; 13],
     complaints: u64,
@@ -33,7 +47,9 @@ pub struct Tally {
 impl Tally {
     pub fn add(&mut self, case: &Case, verdict: &Verdict) {
         self.inputs += 1;
-        self.answers.entry(case.name()).or_default()[verdict.number() as usize] += 1;
+        let counts = self.calls.entry(case.name()).or_default();
+        counts.answers[verdict.number() as usize] += 1;
+        counts.voices[verdict.voice as usize] += 1;
         self.voices[verdict.voice as usize] += 1;
         if let Some(entry) = verdict.entry {
             self.entries[entry as usize] += 1;
@@ -59,20 +75,24 @@ impl Tally {
 impl Display for Tally {
     fn fmt(&self, f: &mut Formatter<'_>) -> Result {
         writeln!(f, "inputs {}", self.inputs)?;
-        for (call, answers) in &self.answers {
-            write!(f, "  {call} {}:", answers.iter().sum::<u64>())?;
-            for (number, n) in answers.iter().enumerate().filter(|(_, n)| **n > 0) {
+        for (call, counts) in &self.calls {
+            write!(f, "  {call} {}:", counts.answers.iter().sum::<u64>())?;
+            for (number, n) in counts.answers.iter().enumerate().filter(|(_, n)| **n > 0) {
                 match number {
                     0 => write!(f, " ok {n}")?,
                     _ => write!(f, ", no {number} {n}")?,
                 }
             }
+            for (voice, name) in VOICES {
+                match counts.voices[voice as usize] {
+                    0 => {}
+                    n => write!(f, "; {name} {n}")?,
+                }
+            }
             writeln!(f)?;
         }
-        let voices = [Voice::Rust, Voice::StandardLibrary, Voice::RulesAlone];
-        for (voice, name) in voices.iter().zip(["the Rust was asked", "the standard library was asked", "rules alone"])
-        {
-            writeln!(f, "{name} {}", self.voices[*voice as usize])?;
+        for (voice, name) in VOICES {
+            writeln!(f, "{name} {}", self.voices[voice as usize])?;
         }
         for (entry, name) in ENTRIES {
             writeln!(f, "entry {entry}, {name}: {}", self.entries[entry as usize])?;

@@ -28,7 +28,7 @@ pub fn of_word<'a>(word: &Word<'a>) -> Token<'a> {
         Word::Number(n) => Token::Number(*n),
         Word::Part(_, contents) | Word::Bytes(contents) => Token::Contents(Cow::Borrowed(contents)),
         Word::Null => Token::Null,
-        Word::Absent => Token::Absent,
+        Word::Absent | Word::None => Token::Absent,
     }
 }
 

@@ -1,5 +1,5 @@
 //! The worked examples of docs/RULES.md, and the inputs of docs/DIFFERENCES.md that are calls here.
-use oracle::calls::{PRIMITIVES, RESPONSE_READS, RESPONSE_WRITE};
+use oracle::calls::{METADATA_READ, METADATA_REQUEST_WRITE, PRIMITIVES, RESPONSE_READS, RESPONSE_WRITE};
 use oracle::case::Case;
 use oracle::judge::{judge, Voice};
 use oracle::make::examples;
@@ -59,6 +59,17 @@ fn primitive(name: &str, message: &[u8]) -> Case {
 fn write(name: &str, room: usize, value: Value) -> Case {
     let call = PRIMITIVES.iter().find(|call| call.write == name).unwrap();
     Case::Write { call, room, value }
+}
+
+fn metadata(version: i16, message: &[u8]) -> Case {
+    Case::ReadBody { call: &METADATA_READ, version, rooms: vec![0; 5], message: message.to_vec() }
+}
+
+/// A Metadata request for topics of that name.
+fn metadata_request(version: i16, room: usize, name: &[u8], topics: usize, creation: Own) -> Case {
+    let own = vec![Own::Number(topics as i64), creation];
+    let tables = vec![[0, name.len() as i64].repeat(topics)];
+    Case::WriteBody { call: &METADATA_REQUEST_WRITE, room, version, lent: name.to_vec(), own, tables }
 }
 
 /// The answer begins so, the input falls under this entry, and the Rust does what the entry says.
@@ -136,4 +147,52 @@ fn differences_in_what_can_be_said() {
     differs(&write("write_string", 4, Value::Contents(vec![0xc0, 0x80])), 12, "no 7 0 0 ");
     differs(&write("write_int16", 4, Value::Number(70_000)), 12, "no 11 0 0 ");
     differs(&write("write_string", 4, Value::Contents(vec![b'a'; 32_768])), None, "no 11 0 0 ");
+}
+
+#[test]
+fn differences_in_versions_of_metadata() {
+    for version in [-1, -32_768] {
+        differs(&metadata(version, &[0; 8]), 1, "no 1 0 0 ");
+        differs(&Case::Host { version, node: 0, message: vec![0; 8] }, 1, "no 1 0 0");
+        differs(&metadata_request(version, 9, b"t", 1, Own::Absent), 1, "no 1 0 0 ");
+        differs(&metadata_request(version, 9, b"t", 1, Own::Flag(true)), 1, "no 1 0 0 ");
+        assert!(matches!(rust::metadata::read_response(version, &[0; 8]), Heard::Gave((_, 8))));
+    }
+    differs(&metadata(5, &[0; 8]), 2, "no 1 0 0 ");
+    differs(&Case::Host { version: 5, node: 0, message: vec![0; 8] }, 2, "no 1 0 0");
+    differs(&metadata_request(5, 9, b"t", 1, Own::Flag(true)), 2, "no 1 0 0 ");
+    assert!(matches!(rust::metadata::read_response(5, &[0; 8]), Heard::Panicked(_)));
+}
+
+#[test]
+fn differences_in_auto_creation() {
+    for version in 0..=3 {
+        for flag in [true, false] {
+            differs(&metadata_request(version, 9, b"t", 1, Own::Flag(flag)), 4, "ok 7 00000001000174a5a5 kept");
+            let refused = rust::metadata::write_request(
+                version,
+                &metadata_request(version, 9, b"t", 1, Own::Flag(flag)).given().unwrap(),
+            );
+            assert_eq!(refused, Ok(Heard::Refused));
+        }
+        differs(&metadata_request(version, 9, b"t", 1, Own::Absent), None, "ok 7 00000001000174a5a5 kept");
+    }
+    differs(&metadata_request(4, 9, b"t", 1, Own::Flag(false)), None, "ok 8 0000000100017400a5 kept");
+    differs(&metadata_request(4, 9, b"t", 1, Own::Absent), None, "ok 8 0000000100017401a5 kept");
+}
+
+#[test]
+fn differences_in_sizes_of_metadata() {
+    let name = [b'a'; 32_767];
+    differs(&metadata_request(4, 1_048_640, &name, 33, Own::Absent), 5, "no 2 0 0 ");
+    differs(&metadata_request(4, 1_048_640, &name, 31, Own::Absent), None, "ok 1015844 ");
+    differs(&metadata_request(0, 9, b"abcdef", 1, Own::Absent), 7, "no 10 0 12 a5*9 kept");
+    differs(&metadata(0, &vec![0; 1_048_577]), 5, "no 2 0 0 ");
+    differs(&metadata(0, &vec![0; 1_048_576]), None, "ok 8 ");
+}
+
+#[test]
+fn differences_in_what_a_metadata_request_can_say() {
+    differs(&metadata_request(4, 9, &[0xc0, 0x80], 1, Own::Absent), 12, "no 7 0 0 ");
+    differs(&metadata_request(4, 9, &[b'a'; 32_768], 1, Own::Absent), None, "no 11 0 0 ");
 }

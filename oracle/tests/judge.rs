@@ -1,11 +1,13 @@
 //! Would a wrong rule be noticed? Readers and writers with one slip each, held against the Rust.
-use oracle::calls::{response, ReadBody, WriteBody, RESPONSE_READS, RESPONSE_WRITE};
+use oracle::calls::{never, response, ReadBody, WriteBody, METADATA_READ, METADATA_REQUEST_WRITE};
+use oracle::calls::{RESPONSE_READS, RESPONSE_WRITE};
 use oracle::case::Case;
 use oracle::judge::judge;
 use oracle::line::{Refusal, Word};
-use oracle::make::{reads, rng::Rng, writes, Section};
-use oracle::model::write::Given;
-use oracle::model::{api_versions, Shown};
+use oracle::make::{metadata as made, reads, rng::Rng, writes, Section};
+use oracle::model::write::{Given, Own};
+use oracle::model::{api_versions, metadata, Shown};
+use oracle::rust;
 
 /// The prefix read of a response, but for its model.
 const fn slip(model: for<'a> fn(i16, bool, &'a [u8]) -> Result<Shown<'a>, Refusal>) -> ReadBody {
@@ -67,13 +69,17 @@ fn never_refused(version: i16, given: &Given) -> Result<Vec<u8>, Refusal> {
     api_versions::write_response(version, given).or_else(|no| if no.number == 13 { Err(no) } else { Ok(vec![]) })
 }
 
-static MORE: WriteBody = WriteBody { name: "response_write", last: Some(3), model: one_byte_more, rust: RUST };
-static NEVER: WriteBody = WriteBody { name: "response_write", last: Some(3), model: never_refused, rust: RUST };
-const RUST: fn(i16, &Given) -> Result<oracle::rust::Written, oracle::rust::Silence> =
-    oracle::rust::api_versions::write_response;
+/// The writer of a response, but for its model.
+const fn slip_in_writing(model: fn(i16, &Given) -> Result<Vec<u8>, Refusal>) -> WriteBody {
+    let rust = rust::api_versions::write_response;
+    WriteBody { name: "response_write", last: Some(3), model, rust, unavailable: never }
+}
 
-fn written(call: &'static WriteBody) -> impl Iterator<Item = Case> {
-    (0..2000).map(move |index| match writes::response(&mut Rng::new(8, index)) {
+static MORE: WriteBody = slip_in_writing(one_byte_more);
+static NEVER: WriteBody = slip_in_writing(never_refused);
+
+fn written(call: &'static WriteBody, made: fn(&mut Rng) -> Case) -> impl Iterator<Item = Case> {
+    (0..2000).map(move |index| match made(&mut Rng::new(8, index)) {
         Case::WriteBody { room, version, lent, own, tables, .. } => {
             Case::WriteBody { call, room, version, lent, own, tables }
         }
@@ -83,10 +89,113 @@ fn written(call: &'static WriteBody) -> impl Iterator<Item = Case> {
 
 #[test]
 fn slips_in_writing_are_noticed() {
-    assert_eq!(complaints(written(&RESPONSE_WRITE)), 0);
-    assert!(complaints(written(&MORE)) > 20);
+    assert_eq!(complaints(written(&RESPONSE_WRITE, writes::response)), 0);
+    assert!(complaints(written(&MORE, writes::response)) > 20);
     // What the Rust's types cannot hold rests on the rules alone, and so a writer that never gives 11 is not noticed.
-    assert_eq!(complaints(written(&NEVER)), 0);
+    assert_eq!(complaints(written(&NEVER, writes::response)), 0);
+}
+
+/// The read of a Metadata response, with one slip in what it shows.
+macro_rules! metadata_slip {
+    ($change:expr) => {
+        ReadBody {
+            name: "metadata_read",
+            last: Some(4),
+            widths: &metadata::WIDTHS,
+            whole: false,
+            model: |version, whole, message| {
+                let mut shown = metadata::read_response(version, whole, message)?;
+                let change: fn(&mut Shown) = $change;
+                change(&mut shown);
+                Ok(shown)
+            },
+            spell: metadata::spell_response,
+            rust: rust::metadata::read_response,
+        }
+    };
+}
+
+/// Cells of a column that are one number become another.
+fn changed(shown: &mut Shown, table: usize, column: usize, from: i64, to: i64) {
+    let cells = shown.tables[table].iter_mut().skip(column).step_by(metadata::WIDTHS[table]);
+    cells.filter(|cell| **cell == from).for_each(|cell| *cell = to);
+}
+
+static RACK_ABSENT_FOR_NULL: ReadBody = metadata_slip!(|shown| changed(shown, 0, 4, 1, 0));
+static EMPTY_FOR_NULL_REPLICAS: ReadBody = metadata_slip!(|shown| changed(shown, 2, 3, -1, 0));
+static NULL_FOR_NO_IN_SYNC: ReadBody = metadata_slip!(|shown| changed(shown, 2, 4, 0, -1));
+static FLAG_FOR_NONE: ReadBody = metadata_slip!(|shown| changed(shown, 1, 3, -1, 0));
+static NODES_SWAPPED: ReadBody = metadata_slip!(|shown| shown.tables.swap(3, 4));
+static ONE_NODE_MORE: ReadBody = metadata_slip!(|shown| shown.tables[4].push(0));
+static CONTROLLER_AS_THROTTLE: ReadBody = metadata_slip!(|shown| shown.own.swap(0, 3));
+static CLUSTER_ABSENT: ReadBody = metadata_slip!(|shown| shown.own[2] = Word::Absent);
+static HOST_EARLY: ReadBody = metadata_slip!(|shown| {
+    shown.tables[0].chunks_exact_mut(7).for_each(|broker| broker[1] -= 1);
+});
+
+fn metadata_bodies(call: &'static ReadBody) -> impl Iterator<Item = Case> {
+    (0..3000).map(move |index| {
+        let mut rng = Rng::new(9, index);
+        let version = rng.below(5) as i16;
+        let message = made::response_bytes(&mut rng, version);
+        Case::ReadBody { call, version, rooms: vec![64; 5], message }
+    })
+}
+
+#[test]
+fn slips_in_reading_metadata_are_noticed() {
+    assert_eq!(complaints(metadata_bodies(&METADATA_READ)), 0);
+    let slips = [
+        &RACK_ABSENT_FOR_NULL,
+        &EMPTY_FOR_NULL_REPLICAS,
+        &NULL_FOR_NO_IN_SYNC,
+        &FLAG_FOR_NONE,
+        &NODES_SWAPPED,
+        &ONE_NODE_MORE,
+        &CONTROLLER_AS_THROTTLE,
+        &CLUSTER_ABSENT,
+        &HOST_EARLY,
+    ];
+    for (which, call) in slips.into_iter().enumerate() {
+        assert!(complaints(metadata_bodies(call)) > 20, "slip {which}");
+    }
+}
+
+/// The writer of a Metadata request, but for its model and for what it takes to be entry 4.
+const fn slip_in_request(
+    model: fn(i16, &Given) -> Result<Vec<u8>, Refusal>,
+    unavailable: fn(i16, &Given) -> Option<Vec<Own>>,
+) -> WriteBody {
+    WriteBody { name: "metadata_request_write", last: Some(4), model, rust: rust::metadata::write_request, unavailable }
+}
+
+static UNSET_IS_FALSE: WriteBody = slip_in_request(
+    |version, given| {
+        let creation = if given.own[1] == Own::Absent { Own::Flag(false) } else { given.own[1] };
+        metadata::write_request(version, &Given { own: &[given.own[0], creation], ..*given })
+    },
+    metadata::without_creation,
+);
+static NULL_IS_EMPTY: WriteBody = slip_in_request(
+    |version, given| {
+        let count = if given.own[0] == Own::Number(-1) { Own::Number(0) } else { given.own[0] };
+        metadata::write_request(version, &Given { own: &[count, given.own[1]], ..*given })
+    },
+    metadata::without_creation,
+);
+static CREATION_AT_THREE: WriteBody = slip_in_request(
+    |version, given| metadata::write_request(if version == 3 { 4 } else { version }, given),
+    metadata::without_creation,
+);
+static NO_ENTRY_4: WriteBody = slip_in_request(metadata::write_request, never);
+
+#[test]
+fn slips_in_writing_metadata_are_noticed() {
+    let requests = |call| complaints(written(call, made::requests::request));
+    assert_eq!(requests(&METADATA_REQUEST_WRITE), 0);
+    for call in [&UNSET_IS_FALSE, &NULL_IS_EMPTY, &CREATION_AT_THREE, &NO_ENTRY_4] {
+        assert!(requests(call) > 20);
+    }
 }
 
 #[test]
@@ -99,4 +208,35 @@ fn parts_of_a_section_are_the_section() {
     assert_eq!(all(1), (0..103).collect::<Vec<i64>>());
     assert_eq!(all(7), all(1));
     assert_eq!(all(200), all(1));
+}
+
+/// The start of the host in the last broker with that node.
+fn last_host(version: i16, node: i64, message: &[u8]) -> Option<usize> {
+    let shown = metadata::read_response(version, false, message).ok()?;
+    shown.tables[0].chunks_exact(7).rfind(|broker| broker[0] == node).map(|broker| broker[1] as usize)
+}
+
+fn host(version: i16, node: i64, message: &[u8]) -> Option<usize> {
+    match metadata::host(version, node, message).ok()?.own[0] {
+        Word::Part(start, _) => Some(start),
+        _ => None,
+    }
+}
+
+#[test]
+fn lookups_agree_and_tell_slips_apart() {
+    let cases: Vec<Case> = (0..6000).map(|index| made::host(&mut Rng::new(10, index))).collect();
+    let telling = |slip: fn(i16, i64, &[u8]) -> Option<usize>| {
+        let differs = |case: &&Case| match case {
+            Case::Host { version: version @ 0..=4, node, message } => {
+                slip(*version, *node, message) != host(*version, *node, message)
+            }
+            _ => false,
+        };
+        cases.iter().filter(differs).count()
+    };
+    assert!(telling(last_host) > 20);
+    assert!(telling(|version, node, message| host(version, node as i32 as i64, message)) > 20);
+    assert!(telling(|version, node, message| host(version, node.wrapping_add(1), message)) > 20);
+    assert_eq!(complaints(cases.into_iter()), 0);
 }

@@ -2,9 +2,9 @@
 ghost use Prim.Native.Nat.{_≤_};
 
 // A cell and a byte that nothing was stored to.
-const CELL: u64 = 777;
+pub const CELL: u64 = 777;
 
-const BYTE: u8 = 0xa5;
+pub const BYTE: u8 = 0xa5;
 
 // Cells on each side of what is lent.
 const AROUND: usize = 8;
@@ -14,20 +14,18 @@ pub const CELLS: u64 = 65536;
 
 pub const BYTES: u64 = 1048640;
 
-fn smaller(a: usize, b: usize) -> usize
-    ensures { λ r. ⌜ (r ≤ a) × (r ≤ b) ⌝ }
-{
-    if a < b {
-        return a;
-    }
-    b
-}
+// What most cases need: more is lent from larger arrays, which take longer to make.
+pub const FEW: u64 = 256;
+
+pub const SHORT: u64 = 1024;
 
 // The place behind `room` of so many, from `from` on.
 fn end(size: usize, from: usize, room: usize) -> usize
-    requires { ⌜ from ≤ size ⌝ }
-    ensures { λ r. ⌜ (from ≤ r) × (r ≤ size) ⌝ }
+    ensures { λ r. ⌜ r ≤ size ⌝ }
 {
+    if size < from {
+        return size;
+    }
     if room < size - from {
         return from + room;
     }
@@ -36,23 +34,12 @@ fn end(size: usize, from: usize, room: usize) -> usize
 
 // ---- tables
 
-fn fill_cells(table: &mut [u64], all: usize) {
-    if table.len() < all {
-        return;
-    }
-    let mut i: usize = 0;
-    while i < all {
-        table[i] = CELL;
-        i = i + 1;
-    }
-}
-
 fn are_cells(table: &[u64], from: usize, to: usize) -> bool {
-    if table.len() < to {
-        return false;
-    }
     let mut i = from;
     while i < to {
+        if table.len() <= i {
+            return false;
+        }
         if table[i] != CELL {
             return false;
         }
@@ -63,61 +50,39 @@ fn are_cells(table: &[u64], from: usize, to: usize) -> bool {
 
 // `room` cells behind the first eight.
 pub(crate) fn cells(table: &mut [u64], room: usize) -> &mut [u64] {
-    let from = smaller(AROUND, table.len());
-    let to = end(table.len(), from, room);
-    &mut table[from..to]
-}
-
-// As many as a case may give.
-pub(crate) fn all_cells(table: &mut [u64]) -> &mut [u64] {
-    cells(table, CELLS as usize)
+    let to = end(table.len(), AROUND, room);
+    if to < AROUND {
+        return table;
+    }
+    &mut table[AROUND..to]
 }
 
 // The same, to look at.
 pub(crate) fn cells_of(table: &[u64], room: usize) -> &[u64] {
-    let from = smaller(AROUND, table.len());
-    let to = end(table.len(), from, room);
-    &table[from..to]
-}
-
-// The cells to lend and those around them.
-pub(crate) fn new_cells(table: &mut [u64], room: usize) {
-    let from = smaller(AROUND, table.len());
-    let to = end(table.len(), from, room);
-    let all = end(table.len(), to, AROUND);
-    fill_cells(table, all);
+    let to = end(table.len(), AROUND, room);
+    if to < AROUND {
+        return table;
+    }
+    &table[AROUND..to]
 }
 
 // Are those around them as they were?
 pub(crate) fn kept_cells(table: &[u64], room: usize) -> bool {
-    let from = smaller(AROUND, table.len());
-    let to = end(table.len(), from, room);
-    let all = end(table.len(), to, AROUND);
-    if !are_cells(table, 0, from) {
-        return false;
+    let to = end(table.len(), AROUND, room);
+    if are_cells(table, 0, AROUND) {
+        return are_cells(table, to, end(table.len(), to, AROUND));
     }
-    are_cells(table, to, all)
+    false
 }
 
 // ---- outputs
 
-fn fill_bytes(made: &mut [u8], all: usize) {
-    if made.len() < all {
-        return;
-    }
-    let mut i: usize = 0;
-    while i < all {
-        made[i] = BYTE;
-        i = i + 1;
-    }
-}
-
 fn are_bytes(made: &[u8], from: usize, to: usize) -> bool {
-    if made.len() < to {
-        return false;
-    }
     let mut i = from;
     while i < to {
+        if made.len() <= i {
+            return false;
+        }
         if made[i] != BYTE {
             return false;
         }
@@ -127,30 +92,25 @@ fn are_bytes(made: &[u8], from: usize, to: usize) -> bool {
 }
 
 pub(crate) fn bytes(made: &mut [u8], room: usize) -> &mut [u8] {
-    let from = smaller(AROUND, made.len());
-    let to = end(made.len(), from, room);
-    &mut made[from..to]
+    let to = end(made.len(), AROUND, room);
+    if to < AROUND {
+        return made;
+    }
+    &mut made[AROUND..to]
 }
 
 pub(crate) fn bytes_of(made: &[u8], room: usize) -> &[u8] {
-    let from = smaller(AROUND, made.len());
-    let to = end(made.len(), from, room);
-    &made[from..to]
-}
-
-pub(crate) fn new_bytes(made: &mut [u8], room: usize) {
-    let from = smaller(AROUND, made.len());
-    let to = end(made.len(), from, room);
-    let all = end(made.len(), to, AROUND);
-    fill_bytes(made, all);
+    let to = end(made.len(), AROUND, room);
+    if to < AROUND {
+        return made;
+    }
+    &made[AROUND..to]
 }
 
 pub(crate) fn kept_bytes(made: &[u8], room: usize) -> bool {
-    let from = smaller(AROUND, made.len());
-    let to = end(made.len(), from, room);
-    let all = end(made.len(), to, AROUND);
-    if !are_bytes(made, 0, from) {
-        return false;
+    let to = end(made.len(), AROUND, room);
+    if are_bytes(made, 0, AROUND) {
+        return are_bytes(made, to, end(made.len(), to, AROUND));
     }
-    are_bytes(made, to, all)
+    false
 }

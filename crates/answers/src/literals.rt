@@ -1,5 +1,6 @@
 // Words that stand for numbers.
 ghost use Prim.Native.Nat.{_≤_};
+use crate::words::word;
 
 // A number as a cell, or a word that is none.
 pub enum Value {
@@ -55,17 +56,6 @@ pub(crate) fn whole(w: &[u8]) -> Value {
     Value::Is(v)
 }
 
-// The cell of -m.
-fn negative(m: u64) -> Value {
-    if 9223372036854775808 < m {
-        return Value::Bad;
-    }
-    if m == 0 {
-        return Value::Is(0);
-    }
-    Value::Is(18446744073709551615 - (m - 1))
-}
-
 // A number from -2^63 to 2^64 - 1.
 pub(crate) fn number(w: &[u8]) -> Value {
     if w.len() == 0 {
@@ -75,44 +65,61 @@ pub(crate) fn number(w: &[u8]) -> Value {
         return whole(w);
     }
     match whole(&w[1..]) {
-        Value::Is(m) => negative(m),
-        Value::Bad => Value::Bad,
-    }
-}
-
-// A number of cells or bytes, up to the most there are.
-pub(crate) fn room(w: &[u8], most: u64) -> Value {
-    match whole(w) {
-        Value::Is(v) => {
-            if most < v {
+        Value::Is(m) => {
+            if 9223372036854775808 < m {
                 return Value::Bad;
             }
-            Value::Is(v)
+            if m == 0 {
+                return Value::Is(0);
+            }
+            Value::Is(18446744073709551615 - (m - 1))
         }
         Value::Bad => Value::Bad,
     }
 }
 
-// A number of 16 bits: from -32768 to 32767.
-pub(crate) fn version(w: &[u8]) -> Value {
-    match number(w) {
+// Is it a number, up to the most there may be?
+pub(crate) fn at_most(v: Value, most: u64) -> bool {
+    match v {
+        Value::Is(n) => n <= most,
+        Value::Bad => false,
+    }
+}
+
+// Is it a number of 16 bits, from -32768 to 32767?
+pub(crate) fn is_short(v: Value) -> bool {
+    match v {
         Value::Is(c) => {
             if c < 32768 {
-                return Value::Is(c);
+                return true;
             }
-            if 18446744073709551615 - c < 32768 {
-                return Value::Is(c);
-            }
-            Value::Bad
+            18446744073709551615 - c < 32768
         }
-        Value::Bad => Value::Bad,
+        Value::Bad => false,
     }
 }
 
-// 1 or 0.
-pub(crate) fn bit(w: &[u8]) -> Value {
-    if w.len() == 1 {
-        return room(w, 1);
+// The number, and 0 where there is none.
+pub(crate) fn or_zero(v: Value) -> u64 {
+    match v {
+        Value::Is(c) => c,
+        Value::Bad => 0,
     }
-    Value::Bad
+}
+
+// The number of the k-th word of a line.
+pub(crate) fn cell(line: &[u8], k: usize) -> u64 {
+    or_zero(number(word(line, k)))
+}
+
+// The version that the k-th word is.
+pub(crate) fn version(line: &[u8], k: usize) -> i16 {
+    let c = cell(line, k);
+    if c < 32768 {
+        return c as i16;
+    }
+    if 18446744073709551615 - c < 32768 {
+        return !((18446744073709551615 - c) as i16);
+    }
+    0
 }

@@ -1,18 +1,21 @@
 // Answers questions about the library: a case a line on standard input, an answer a line on standard output. docs/ANSWERS.md says how both look.
-// What a case is parsed into, what is lent to a call and what is to be written are buffers of `main`, lent down.
+// A line is looked at twice: first whether it is a case, then for what it gives, where it is needed. So all that is handed down is the line,
+// and what is lent to a call stands in arrays of the function that calls.
 use grammar::Found;
-use grammar::first;
-use lent::cells_of;
+use grammar::all_fit;
+use grammar::listed;
 use libc::STDIN_FILENO;
-use sink::bad;
-use sink::flush;
+use libc::STDOUT_FILENO;
 use words::behind;
 use words::between;
 use words::find;
+use words::word;
 
-mod calls_api_versions;
+mod calls_lent;
+mod calls_metadata;
 mod calls_read;
 mod calls_written;
+mod given;
 mod grammar;
 mod lent;
 mod literals;
@@ -26,129 +29,47 @@ const LINE: usize = 262144;
 
 // ---- a case
 
-// The calls that write: the bytes stand in `msg`, cells in `items` and `tags`.
-fn writing(
-    out: &mut [u8],
-    n: usize,
-    call: u64,
-    given: &[u64],
-    msg: &[u8],
-    made: &mut [u8],
-    items: &[u64],
-    tags: &[u64],
-) -> usize {
-    match call {
-        40 => calls_written::tagged_fields(
-            out,
-            n,
-            given,
-            between(msg, 0, first(given, 1) as usize),
-            made,
-            cells_of(tags, first(given, 3) as usize),
-        ),
-        45 => calls_api_versions::response_write(
-            out,
-            n,
-            given,
-            between(msg, 0, first(given, 2) as usize),
-            made,
-            cells_of(items, first(given, 7) as usize),
-            cells_of(tags, first(given, 8) as usize),
-        ),
-        46 => calls_api_versions::request_write(
-            out,
-            n,
-            given,
-            between(msg, 0, first(given, 2) as usize),
-            made,
-            cells_of(tags, first(given, 6) as usize),
-        ),
-        _ => calls_written::primitive(
-            out,
-            n,
-            call,
-            given,
-            between(msg, 0, first(given, 1) as usize),
-            made,
-        ),
-    }
+fn bad() {
+    io::write_all(STDOUT_FILENO, b"bad case\n");
 }
 
-// The calls that read, and agreement.
-fn reading(
-    out: &mut [u8],
-    n: usize,
-    call: u64,
-    given: &[u64],
-    msg: &[u8],
-    items: &mut [u64],
-    tags: &mut [u64],
-) -> usize {
-    match call {
-        20 => calls_read::part(out, n, given, between(msg, 0, first(given, 0) as usize)),
-        21 => calls_read::tagged_fields(
-            out,
-            n,
-            given,
-            between(msg, 0, first(given, 1) as usize),
-            tags,
-        ),
-        41..=43 => calls_api_versions::response_read(
-            out,
-            n,
-            call,
-            given,
-            between(msg, 0, first(given, 3) as usize),
-            items,
-            tags,
-        ),
-        44 => calls_api_versions::request_read(
-            out,
-            n,
-            given,
-            between(msg, 0, first(given, 2) as usize),
-            tags,
-        ),
-        47 => calls_api_versions::agree(out, n, cells_of(items, first(given, 0) as usize)),
-        _ => calls_read::message(out, n, call, between(msg, 0, first(given, 0) as usize)),
+// Calls have the numbers of their places in the list; primitives, read and written, stand in the order of their kinds.
+fn answer(line: &[u8]) {
+    if LINE < line.len() {
+        bad();
+        return;
     }
-}
-
-fn is_writing(call: u64) -> bool {
-    match call {
-        22..=40 => true,
-        45..=46 => true,
-        _ => false,
-    }
-}
-
-// A line that is not the rest of one that was too long.
-fn answer(
-    out: &mut [u8],
-    n: usize,
-    line: &[u8],
-    msg: &mut [u8],
-    made: &mut [u8],
-    items: &mut [u64],
-    tags: &mut [u64],
-) -> usize {
-    let mut given = [0u64; 48];
-    match grammar::case(line, msg, items, tags, &mut given) {
-        Found::At { call, place: _ } => {
-            if is_writing(call) {
-                return writing(out, n, call, &given, msg, made, items, tags);
+    let list = b"well_formed B is_text B \
+        int8 B int16 B int32 B int64 B boolean B unsigned_varint B varint B varlong B \
+        array_count B compact_array_count B \
+        bytes B nullable_bytes B compact_bytes B records B \
+        string B nullable_string B compact_string B compact_nullable_string B \
+        part BLL tagged_fields RB \
+        write_int8 ON write_int16 ON write_int32 ON write_int64 ON \
+        write_boolean OF write_unsigned_varint ON write_varint ON write_varlong ON \
+        write_array_count OZ write_compact_array_count OZ \
+        write_bytes OB write_nullable_bytes OY write_compact_bytes OB write_records OB \
+        write_string OB write_nullable_string OY write_compact_string OB write_compact_nullable_string OY \
+        write_tagged_fields OBND \
+        response_read VRRB response_read_whole VRRB response_read_answer VRRB \
+        request_read VRB response_write OVBNNTNCD request_write OVBPPND agree C metadata_read VRRRRRB metadata_request_write OVBNAC host VNB";
+    match listed(list, word(line, 0)) {
+        Found::At { call, place } => {
+            let letters = between(list, place, find(list, place, b' '));
+            if all_fit(letters, line) {
+                given::answer(call, letters, line);
+            } else {
+                bad();
             }
-            reading(out, n, call, &given, msg, items, tags)
         }
-        Found::Nothing => bad(out, n),
+        Found::Nothing => bad(),
     }
 }
 
 // ---- the lines
 
-// The sink's place, where the bytes begin that belong to no whole line yet, and whether they are the rest of a line that was answered.
+// Where the bytes begin that belong to no whole line yet, and whether they are the rest of a line that was answered.
 pub struct Rest {
-    pub n: usize,
     pub from: usize,
     pub skip: bool,
 }
@@ -161,51 +82,21 @@ fn begin(text: &[u8], skip: bool) -> usize {
     0
 }
 
-// A line. An empty one stands for one that is too long: neither is a case.
-fn line_of(text: &[u8], at: usize, end: usize) -> &[u8] {
-    let line = between(text, at, end);
-    if LINE < line.len() {
-        return between(text, 0, 0);
-    }
-    line
-}
-
-// All whole lines from `start` on.
-fn lines(
-    out: &mut [u8],
-    start: usize,
-    text: &[u8],
-    msg: &mut [u8],
-    made: &mut [u8],
-    items: &mut [u64],
-    tags: &mut [u64],
-) -> Rest {
-    let mut n: usize = 0;
+// All whole lines from `start` on; the place behind them.
+fn lines(text: &[u8], start: usize) -> usize {
     let mut at = start;
     while at < text.len() {
         let end = find(text, at, b'\n');
         if end < at {
-            return Rest {
-                n,
-                from: at,
-                skip: false,
-            };
+            return at;
         }
         if text.len() <= end {
-            return Rest {
-                n,
-                from: at,
-                skip: false,
-            };
+            return at;
         }
-        n = answer(out, n, line_of(text, at, end), msg, made, items, tags);
+        answer(between(text, at, end));
         at = end + 1;
     }
-    Rest {
-        n,
-        from: at,
-        skip: false,
-    }
+    at
 }
 
 fn ends_line(text: &[u8]) -> bool {
@@ -216,27 +107,22 @@ fn ends_line(text: &[u8]) -> bool {
 }
 
 // A line that is too long is answered once, and no byte of it is kept.
-fn cut(out: &mut [u8], n: usize, from: usize, text: &[u8]) -> Rest {
+fn cut(text: &[u8], from: usize) -> Rest {
     if text.len() <= from {
         let skip = !ends_line(text);
         return Rest {
-            n,
             from: text.len(),
             skip,
         };
     }
     if LINE < text.len() - from {
+        bad();
         return Rest {
-            n: bad(out, n),
             from: text.len(),
             skip: true,
         };
     }
-    Rest {
-        n,
-        from,
-        skip: false,
-    }
+    Rest { from, skip: false }
 }
 
 // ---- the input
@@ -267,60 +153,29 @@ fn moved(buf: &mut [u8], from: usize, all: usize) -> usize {
     to
 }
 
-// What was read: whole lines are answered, and what is left of it is told.
-fn turn(
-    out: &mut [u8],
-    skip: bool,
-    text: &[u8],
-    msg: &mut [u8],
-    made: &mut [u8],
-    items: &mut [u64],
-    tags: &mut [u64],
-) -> Rest {
-    let r = lines(out, begin(text, skip), text, msg, made, items, tags);
-    let rest = cut(out, r.n, r.from, text);
-    flush(out, rest.n);
-    rest
-}
-
 // A line with no end, which may be the rest of one that was answered.
-fn last(
-    out: &mut [u8],
-    skip: bool,
-    line: &[u8],
-    msg: &mut [u8],
-    made: &mut [u8],
-    items: &mut [u64],
-    tags: &mut [u64],
-) {
+fn last(line: &[u8], skip: bool) {
     if skip {
         return;
     }
     if 0 < line.len() {
-        let n = answer(out, 0, line, msg, made, items, tags);
-        flush(out, n);
+        answer(line);
     }
 }
 
 // A proved loop has to end, and nothing says that the input does: the loop counts down from a number that no run uses up.
-fn run(
-    out: &mut [u8],
-    buf: &mut [u8],
-    msg: &mut [u8],
-    made: &mut [u8],
-    items: &mut [u64],
-    tags: &mut [u64],
-) {
+fn run(buf: &mut [u8]) {
     let mut have: usize = 0;
     let mut skip = false;
     let mut turns = u64::MAX;
     while turns > 0 {
         let all = more(buf, have);
+        let text = between(buf, 0, all);
         if all <= have {
-            last(out, skip, between(buf, 0, have), msg, made, items, tags);
+            last(text, skip);
             return;
         }
-        let rest = turn(out, skip, between(buf, 0, all), msg, made, items, tags);
+        let rest = cut(text, lines(text, begin(text, skip)));
         let from = rest.from;
         skip = rest.skip;
         have = moved(buf, from, all);
@@ -328,31 +183,7 @@ fn run(
     }
 }
 
-// The same with arrays, whose sizes are known by their types.
-fn started(
-    out: &mut [u8; 65536],
-    buf: &mut [u8; 327680],
-    msg: &mut [u8; 1048640],
-    made: &mut [u8; 1048656],
-    items: &mut [u64; 65552],
-    tags: &mut [u64; 65552],
-) {
-    run(out, buf, msg, made, items, tags);
-}
-
 fn main() {
-    let mut out = [0u8; 65536];
     let mut buf = [0u8; 327680];
-    let mut msg = [0u8; 1048640];
-    let mut made = [0u8; 1048656];
-    let mut items = [0u64; 65552];
-    let mut tags = [0u64; 65552];
-    started(
-        &mut out,
-        &mut buf,
-        &mut msg,
-        &mut made,
-        &mut items,
-        &mut tags,
-    );
+    run(&mut buf);
 }

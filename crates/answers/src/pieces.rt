@@ -1,218 +1,229 @@
-// Words that stand for bytes or cells: pieces with a comma between them, stored one behind the other into what is lent.
+// Words that stand for bytes or cells: pieces with a comma between them.
 ghost use Prim.Native.Nat.{_≤_};
 use crate::literals::Value;
 use crate::literals::number;
+use crate::literals::or_zero;
 use crate::literals::whole;
+use crate::words::behind;
 use crate::words::between;
 use crate::words::find;
 use crate::words::is;
 
-// How many there are, or a word that stands for none.
-pub enum Size {
-    Is(usize),
-    Bad,
+// A byte or a cell, how many times over it stands there (0 for what is no piece), and where the next begins.
+pub struct Piece {
+    pub value: u64,
+    pub times: u64,
+    pub next: usize,
+}
+
+// What is no piece; and what stands in front of the first.
+const NONE: Piece = Piece {
+    value: 0,
+    times: 0,
+    next: 0,
+};
+
+// What ends at `end`: with the word, at a comma, behind which there must be more, or, of bytes, in front of the next two digits.
+fn ended(w: &[u8], value: Value, times: Value, end: usize) -> Piece {
+    match value {
+        Value::Is(v) => Piece {
+            value: v,
+            times: or_zero(times),
+            next: next_place(w, end),
+        },
+        Value::Bad => NONE,
+    }
+}
+
+// Where the next piece begins; 0, where there is none though there should be.
+fn next_place(w: &[u8], end: usize) -> usize {
+    if w.len() <= end {
+        return w.len();
+    }
+    if w[end] != b',' {
+        return end;
+    }
+    if w.len() - end == 1 {
+        return 0;
+    }
+    end + 1
+}
+
+// So many times over, behind a star; once, where there is none.
+fn times(p: &[u8], star: usize) -> Value {
+    if star < p.len() {
+        return whole(&p[star + 1..]);
+    }
+    Value::Is(1)
 }
 
 // ---- bytes
 
 // The number that a hexadecimal digit stands for; 16 for any other byte, a capital too.
-fn nibble(b: u8) -> u8
+fn nibble(b: u8) -> u64
     ensures { λ r. ⌜ r ≤ 16 ⌝ }
 {
     if b < b'0' {
         return 16;
     }
     if b <= b'9' {
-        return b - b'0';
+        return (b - b'0') as u64;
     }
     if b < b'a' {
         return 16;
     }
     if b <= b'f' {
-        return b - 87;
+        return (b - 87) as u64;
     }
     16
 }
 
-// Two digits as a byte, stored at n where there is room.
-fn byte(high: u8, low: u8, buf: &mut [u8], n: usize) -> Size {
+// Two digits as a byte.
+fn pair(high: u8, low: u8) -> Value {
     let h = nibble(high);
     let l = nibble(low);
     if 15 < h {
-        return Size::Bad;
+        return Value::Bad;
     }
     if 15 < l {
-        return Size::Bad;
+        return Value::Bad;
     }
-    if n < buf.len() {
-        buf[n] = h * 16 + l;
-        return Size::Is(n + 1);
-    }
-    Size::Bad
+    Value::Is(h * 16 + l)
 }
 
-// Two digits a byte.
-fn digits(piece: &[u8], buf: &mut [u8], n: usize) -> Size {
-    if piece.len() == 0 {
-        return Size::Bad;
+// Does the piece with that place begin there?
+fn begins(w: &[u8], at: usize) -> bool {
+    if at == 0 {
+        return true;
     }
-    let mut m = n;
-    let mut left = piece;
-    while 1 < left.len() {
-        match byte(left[0], left[1], buf, m) {
-            Size::Is(k) => {
-                m = k;
-            }
-            Size::Bad => {
-                return Size::Bad;
-            }
+    if at <= w.len() {
+        return w[at - 1] == b',';
+    }
+    false
+}
+
+// A byte so many times over, which is a piece by itself.
+fn run(w: &[u8], at: usize, value: Value, star: usize) -> Piece {
+    if begins(w, at) {
+        let end = find(w, star, b',');
+        return ended(w, value, whole(between(w, behind(w, star), end)), end);
+    }
+    NONE
+}
+
+// Two digits, and what is behind them where that is a star.
+fn byte(w: &[u8], at: usize) -> Piece {
+    if w.len() < 2 {
+        return NONE;
+    }
+    if w.len() - 2 < at {
+        return NONE;
+    }
+    let value = pair(w[at], w[at + 1]);
+    let star = at + 2;
+    if star < w.len() {
+        if w[star] == b'*' {
+            return run(w, at, value, star);
         }
-        left = &left[2..];
     }
-    if left.len() == 1 {
-        return Size::Bad;
-    }
-    Size::Is(m)
-}
-
-// The byte at n - 1 again, so many times less one.
-fn again(buf: &mut [u8], n: usize, times: u64) -> Size {
-    if times == 0 {
-        return Size::Bad;
-    }
-    if n == 0 {
-        return Size::Bad;
-    }
-    if buf.len() < n {
-        return Size::Bad;
-    }
-    if ((buf.len() - n) as u64) < times - 1 {
-        return Size::Bad;
-    }
-    let b = buf[n - 1];
-    let end = n + (times - 1) as usize;
-    let mut i = n;
-    while i < end {
-        buf[i] = b;
-        i = i + 1;
-    }
-    Size::Is(end)
-}
-
-// One byte, so many times over.
-fn run(digit: &[u8], times: &[u8], buf: &mut [u8], n: usize) -> Size {
-    if digit.len() != 2 {
-        return Size::Bad;
-    }
-    match whole(times) {
-        Value::Is(k) => match byte(digit[0], digit[1], buf, n) {
-            Size::Is(m) => again(buf, m, k),
-            Size::Bad => Size::Bad,
-        },
-        Value::Bad => Size::Bad,
-    }
-}
-
-fn piece(p: &[u8], buf: &mut [u8], n: usize) -> Size {
-    let star = find(p, 0, b'*');
-    if star < p.len() {
-        return run(between(p, 0, star), &p[star + 1..], buf, n);
-    }
-    digits(p, buf, n)
-}
-
-// All pieces; `-` is none.
-pub(crate) fn bytes(w: &[u8], buf: &mut [u8]) -> Size {
-    if is(w, b"-") {
-        return Size::Is(0);
-    }
-    let mut n: usize = 0;
-    let mut at: usize = 0;
-    while at <= w.len() {
-        let comma = find(w, at, b',');
-        if comma < at {
-            return Size::Bad;
-        }
-        match piece(between(w, at, comma), buf, n) {
-            Size::Is(k) => {
-                n = k;
-            }
-            Size::Bad => {
-                return Size::Bad;
-            }
-        }
-        if w.len() <= comma {
-            return Size::Is(n);
-        }
-        at = comma + 1;
-    }
-    Size::Bad
+    ended(w, value, Value::Is(1), star)
 }
 
 // ---- cells
 
-// The cell so many times over, from n on.
-fn repeated(table: &mut [u64], n: usize, c: u64, times: u64) -> Size {
+fn cell(w: &[u8], at: usize) -> Piece {
+    let end = find(w, at, b',');
+    let p = between(w, at, end);
+    let star = find(p, 0, b'*');
+    ended(w, number(between(p, 0, star)), times(p, star), end)
+}
+
+// ---- both
+
+fn next_piece(w: &[u8], at: usize, of_bytes: bool) -> Piece {
+    if of_bytes {
+        return byte(w, at);
+    }
+    cell(w, at)
+}
+
+// So many and as many more, where they are some; what is no word has the most that there can be.
+fn sum(n: u64, times: u64) -> u64 {
     if times == 0 {
-        return Size::Bad;
+        return u64::MAX;
     }
-    if table.len() < n {
-        return Size::Bad;
+    if u64::MAX - n < times {
+        return u64::MAX;
     }
-    if ((table.len() - n) as u64) < times {
-        return Size::Bad;
+    n + times
+}
+
+// How many a word stands for, none for `-`; where it is no such word, more than there can be.
+pub(crate) fn size(w: &[u8], of_bytes: bool) -> u64 {
+    if is(w, b"-") {
+        return 0;
     }
-    let end = n + times as usize;
-    let mut i = n;
-    while i < end {
-        table[i] = c;
+    let mut n: u64 = 0;
+    let mut at: usize = 0;
+    while at < w.len() {
+        let p = next_piece(w, at, of_bytes);
+        let next = p.next;
+        if next <= at {
+            return u64::MAX;
+        }
+        n = sum(n, p.times);
+        at = next;
+    }
+    if n == 0 {
+        return u64::MAX;
+    }
+    n
+}
+
+// A piece, less the first of what stands in it.
+fn begun(w: &[u8], at: usize, of_bytes: bool) -> Piece {
+    let p = next_piece(w, at, of_bytes);
+    if p.times == 0 {
+        return NONE;
+    }
+    Piece {
+        value: p.value,
+        times: p.times - 1,
+        next: p.next,
+    }
+}
+
+// What the word stands for, as much of it as there is room for.
+pub(crate) fn bytes(w: &[u8], buf: &mut [u8]) {
+    let mut p = NONE;
+    let mut left: u64 = 0;
+    let mut i: usize = 0;
+    while i < buf.len() {
+        if 0 < left {
+            left = left - 1;
+        } else {
+            p = begun(w, p.next, true);
+            left = p.times;
+        }
+        let v = p.value;
+        buf[i] = (v % 256) as u8;
         i = i + 1;
     }
-    Size::Is(end)
 }
 
-fn stored(first: &[u8], times: Value, table: &mut [u64], n: usize) -> Size {
-    match number(first) {
-        Value::Is(c) => match times {
-            Value::Is(k) => repeated(table, n, c, k),
-            Value::Bad => Size::Bad,
-        },
-        Value::Bad => Size::Bad,
-    }
-}
-
-fn cell(p: &[u8], table: &mut [u64], n: usize) -> Size {
-    let star = find(p, 0, b'*');
-    if star < p.len() {
-        return stored(between(p, 0, star), whole(&p[star + 1..]), table, n);
-    }
-    stored(p, Value::Is(1), table, n)
-}
-
-// All pieces; `-` is none.
-pub(crate) fn cells(w: &[u8], table: &mut [u64]) -> Size {
-    if is(w, b"-") {
-        return Size::Is(0);
-    }
-    let mut n: usize = 0;
-    let mut at: usize = 0;
-    while at <= w.len() {
-        let comma = find(w, at, b',');
-        if comma < at {
-            return Size::Bad;
+pub(crate) fn cells(w: &[u8], table: &mut [u64]) {
+    let mut p = NONE;
+    let mut left: u64 = 0;
+    let mut i: usize = 0;
+    while i < table.len() {
+        if 0 < left {
+            left = left - 1;
+        } else {
+            p = begun(w, p.next, false);
+            left = p.times;
         }
-        match cell(between(w, at, comma), table, n) {
-            Size::Is(k) => {
-                n = k;
-            }
-            Size::Bad => {
-                return Size::Bad;
-            }
-        }
-        if w.len() <= comma {
-            return Size::Is(n);
-        }
-        at = comma + 1;
+        let v = p.value;
+        table[i] = v;
+        i = i + 1;
     }
-    Size::Bad
 }

@@ -1,62 +1,77 @@
-// What is written: kept in a buffer, `out`, up to a place, `n`, and handed on when that is full. Each function takes the place and returns the next.
+// What is written: kept in a value, `Sink`, and handed on when that is full and at the end of a line. Each function takes it and returns it with more.
 ghost use Prim.Native.Nat.{_≤_, _<_};
 ghost use lib.ListN.{length};
 use crate::words::between;
 use libc::STDOUT_FILENO;
 
-// Hands on what is kept.
-pub(crate) fn flush(out: &[u8], n: usize) -> usize {
-    io::write_all(STDOUT_FILENO, between(out, 0, n));
+// Bytes that wait, and how many they are. It is copied at each call, so it is small.
+pub struct Sink {
+    pub bytes: [u8; 256],
+    pub n: usize,
+}
+
+// With a first word.
+pub(crate) fn begun(word: &[u8]) -> Sink {
+    text(
+        Sink {
+            bytes: [0u8; 256],
+            n: 0,
+        },
+        word,
+    )
+}
+
+// The place for one byte more: all of them are handed on where there is none.
+fn place(bytes: &[u8; 256], n: usize) -> usize
+    ensures { λ r. ⌜ r < 256 ⌝ }
+{
+    if n < 256 {
+        return n;
+    }
+    io::write_all(STDOUT_FILENO, bytes);
     0
 }
 
-pub(crate) fn put(out: &mut [u8], n: usize, b: u8) -> usize {
-    if n < out.len() {
-        out[n] = b;
-        return n + 1;
-    }
-    flush(out, n);
-    if 0 < out.len() {
-        out[0] = b;
-        return 1;
-    }
-    0
-}
-
-pub(crate) fn text(out: &mut [u8], n: usize, s: &[u8]) -> usize {
-    let mut m = n;
+pub(crate) fn text(s: Sink, t: &[u8]) -> Sink {
+    let mut bytes = s.bytes;
+    let mut n = s.n;
     let mut i: usize = 0;
-    while i < s.len() {
-        m = put(out, m, s[i]);
+    while i < t.len() {
+        let at = place(&bytes, n);
+        bytes[at] = t[i];
+        n = at + 1;
         i = i + 1;
     }
-    m
+    Sink { bytes, n }
 }
 
-pub(crate) fn decimal(out: &mut [u8], n: usize, v: u64) -> usize {
+// The last word, and the end of the line; all of it is handed on.
+pub(crate) fn end(s: Sink, word: &[u8]) {
+    let last = text(s, word);
+    let bytes = last.bytes;
+    io::write_all(STDOUT_FILENO, between(&bytes, 0, last.n));
+}
+
+// A number, and what stands in front of it.
+pub(crate) fn decimal(s: Sink, before: &[u8], v: u64) -> Sink {
     let mut digits = [0u8; 20];
     let k = io::decimal(v, &mut digits);
-    text(out, n, &digits[..k])
+    text(text(s, before), &digits[..k])
 }
 
 // The signed number that a cell stands for.
-pub(crate) fn cell(out: &mut [u8], n: usize, c: u64) -> usize {
+pub(crate) fn cell(s: Sink, before: &[u8], c: u64) -> Sink {
     if c < 9223372036854775808 {
-        return decimal(out, n, c);
+        return decimal(s, before, c);
     }
-    let m = put(out, n, b'-');
-    decimal(out, m, 18446744073709551615 - c + 1)
+    decimal(text(s, before), b"-", 18446744073709551615 - c + 1)
 }
 
-// A number behind a space.
-pub(crate) fn next_decimal(out: &mut [u8], n: usize, v: u64) -> usize {
-    let m = put(out, n, b' ');
-    decimal(out, m, v)
-}
-
-pub(crate) fn next_cell(out: &mut [u8], n: usize, c: u64) -> usize {
-    let m = put(out, n, b' ');
-    cell(out, m, c)
+fn comma_if(s: Sink, needed: bool) -> Sink {
+    if needed {
+        return text(s, b",");
+    }
+    s
 }
 
 // ---- bytes
@@ -71,30 +86,20 @@ fn digit(d: u8) -> u8 {
     63
 }
 
-fn hex(out: &mut [u8], n: usize, b: u8) -> usize {
-    let m = put(out, n, digit(b / 16));
-    put(out, m, digit(b % 16))
-}
-
-fn all_hex(out: &mut [u8], n: usize, s: &[u8]) -> usize {
-    let mut m = n;
-    let mut i: usize = 0;
-    while i < s.len() {
-        m = hex(out, m, s[i]);
-        i = i + 1;
-    }
-    m
+fn hex(s: Sink, b: u8) -> Sink {
+    let pair = [digit(b / 16), digit(b % 16)];
+    text(s, &pair)
 }
 
 // The place behind the bytes from `at` on that are all equal.
-fn run_end(s: &[u8], at: usize) -> usize
-    requires { ⌜ at < length (now s) ⌝ }
-    ensures { λ r. ⌜ (at < r) × (r ≤ length (now (s .entry))) ⌝ }
+fn run_end(t: &[u8], at: usize) -> usize
+    requires { ⌜ at < length (now t) ⌝ }
+    ensures { λ r. ⌜ (at < r) × (r ≤ length (now (t .entry))) ⌝ }
 {
-    let b = s[at];
+    let b = t[at];
     let mut i = at + 1;
-    while i < s.len() {
-        if s[i] != b {
+    while i < t.len() {
+        if t[i] != b {
             return i;
         }
         i = i + 1;
@@ -102,51 +107,39 @@ fn run_end(s: &[u8], at: usize) -> usize
     i
 }
 
-fn comma_if(out: &mut [u8], n: usize, needed: bool) -> usize {
-    if needed {
-        return put(out, n, b',');
+// Behind bytes or cells that are equal where they are so many, and else behind the first.
+fn after(at: usize, end: usize, many: usize) -> usize
+    requires { ⌜ at < end ⌝ }
+    ensures { λ r. ⌜ (at < r) × (r ≤ end) ⌝ }
+{
+    if many <= end - at {
+        return end;
     }
-    n
+    at + 1
 }
 
-// One byte so many times over.
-fn run(out: &mut [u8], n: usize, b: u8, times: usize) -> usize {
-    let mut m = hex(out, n, b);
-    m = put(out, m, b'*');
-    decimal(out, m, times as u64)
-}
-
-// Were those eight or more?
-fn is_run(from: usize, to: usize) -> bool {
-    if to < from {
-        return false;
+// Eight or more that are equal are a run, a piece by itself; others go on with the piece before them, unless that was a run.
+fn equal_bytes(s: Sink, b: u8, n: usize, at: usize, behind: bool) -> Sink {
+    if 8 <= n {
+        return decimal(hex(comma_if(s, 0 < at), b), b"*", n as u64);
     }
-    8 <= to - from
-}
-
-// Equal bytes, which stand at `at`. Eight or more are a run, a piece by itself; fewer go on with the piece before them, unless that was a run.
-fn equal_bytes(out: &mut [u8], n: usize, s: &[u8], at: usize, behind: bool) -> usize {
-    if 8 <= s.len() {
-        let first = comma_if(out, n, 0 < at);
-        return run(out, first, s[0], s.len());
-    }
-    let m = comma_if(out, n, behind);
-    all_hex(out, m, s)
+    hex(comma_if(s, behind), b)
 }
 
 // All of them, or `-` for none.
-pub(crate) fn bytes(out: &mut [u8], n: usize, s: &[u8]) -> usize {
-    if s.len() == 0 {
-        return put(out, n, b'-');
+pub(crate) fn bytes(s: Sink, t: &[u8]) -> Sink {
+    if t.len() == 0 {
+        return text(s, b"-");
     }
-    let mut m = n;
+    let mut m = s;
     let mut behind = false;
     let mut at: usize = 0;
-    while at < s.len() {
-        let end = run_end(s, at);
-        m = equal_bytes(out, m, between(s, at, end), at, behind);
-        behind = is_run(at, end);
-        at = end;
+    while at < t.len() {
+        let end = run_end(t, at);
+        let n = end - at;
+        m = equal_bytes(m, t[at], n, at, behind);
+        behind = 8 <= n;
+        at = after(at, end, 8);
     }
     m
 }
@@ -154,14 +147,14 @@ pub(crate) fn bytes(out: &mut [u8], n: usize, s: &[u8]) -> usize {
 // ---- cells
 
 // The place behind the cells from `at` on that are all equal.
-fn cells_end(s: &[u64], at: usize) -> usize
-    requires { ⌜ at < length (now s) ⌝ }
-    ensures { λ r. ⌜ (at < r) × (r ≤ length (now (s .entry))) ⌝ }
+fn cells_end(t: &[u64], at: usize) -> usize
+    requires { ⌜ at < length (now t) ⌝ }
+    ensures { λ r. ⌜ (at < r) × (r ≤ length (now (t .entry))) ⌝ }
 {
-    let c = s[at];
+    let c = t[at];
     let mut i = at + 1;
-    while i < s.len() {
-        if s[i] != c {
+    while i < t.len() {
+        if t[i] != c {
             return i;
         }
         i = i + 1;
@@ -169,44 +162,26 @@ fn cells_end(s: &[u64], at: usize) -> usize
     i
 }
 
-// A cell so many times over: one piece where there are four or more.
-fn equal_cells(out: &mut [u8], n: usize, c: u64, times: usize) -> usize {
-    let mut m = cell(out, n, c);
-    if 4 <= times {
-        m = put(out, m, b'*');
-        return decimal(out, m, times as u64);
-    }
-    let mut i: usize = 1;
-    while i < times {
-        m = put(out, m, b',');
-        m = cell(out, m, c);
-        i = i + 1;
+// Four or more that are equal are one piece.
+fn equal_cells(s: Sink, c: u64, n: usize, at: usize) -> Sink {
+    let m = cell(comma_if(s, 0 < at), b"", c);
+    if 4 <= n {
+        return decimal(m, b"*", n as u64);
     }
     m
 }
 
 // All of them, or `-` for none.
-pub(crate) fn cells(out: &mut [u8], n: usize, s: &[u64]) -> usize {
-    if s.len() == 0 {
-        return put(out, n, b'-');
+pub(crate) fn cells(s: Sink, t: &[u64]) -> Sink {
+    if t.len() == 0 {
+        return text(s, b"-");
     }
-    let mut m = n;
+    let mut m = s;
     let mut at: usize = 0;
-    while at < s.len() {
-        m = comma_if(out, m, 0 < at);
-        let end = cells_end(s, at);
-        m = equal_cells(out, m, s[at], end - at);
-        at = end;
+    while at < t.len() {
+        let end = cells_end(t, at);
+        m = equal_cells(m, t[at], end - at, at);
+        at = after(at, end, 4);
     }
     m
-}
-
-// ---- what many answers share
-
-pub(crate) fn bad(out: &mut [u8], n: usize) -> usize {
-    text(out, n, b"bad case\n")
-}
-
-pub(crate) fn line_end(out: &mut [u8], n: usize) -> usize {
-    put(out, n, b'\n')
 }

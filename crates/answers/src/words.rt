@@ -35,26 +35,6 @@ pub(crate) fn behind(s: &[u8], place: usize) -> usize {
     s.len()
 }
 
-fn one_if_space(b: u8) -> usize
-    ensures { λ r. ⌜ r ≤ 1 ⌝ }
-{
-    if b == b' ' {
-        return 1;
-    }
-    0
-}
-
-// How many words follow the first: the number of spaces.
-pub(crate) fn given(line: &[u8]) -> usize {
-    let mut n: usize = 0;
-    let mut at: usize = 0;
-    while at < line.len() {
-        n = n + one_if_space(line[at]);
-        at = at + 1;
-    }
-    n
-}
-
 // The place of the k-th word, counted from 0; the end where there are fewer.
 fn place_of(line: &[u8], k: usize) -> usize {
     let mut at: usize = 0;
@@ -72,25 +52,17 @@ pub(crate) fn word(line: &[u8], k: usize) -> &[u8] {
     between(line, from, find(line, from, b' '))
 }
 
-// Does the word begin so?
-pub(crate) fn begins(w: &[u8], name: &[u8]) -> bool {
-    if w.len() < name.len() {
+// Is it this word?
+pub(crate) fn is(w: &[u8], name: &[u8]) -> bool {
+    if w.len() != name.len() {
         return false;
     }
     let mut i: usize = 0;
-    while i < name.len() {
+    while i < w.len() {
         if w[i] != name[i] {
             return false;
         }
         i = i + 1;
     }
     true
-}
-
-// Is it this word?
-pub(crate) fn is(w: &[u8], name: &[u8]) -> bool {
-    if w.len() != name.len() {
-        return false;
-    }
-    begins(w, name)
 }

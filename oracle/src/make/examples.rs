@@ -1,7 +1,8 @@
 //! The worked examples E1 to E12 and the further ones that are calls here: docs/RULES.md, section 12. Each has the answer
 //! that the page gives, written down by hand, so the model is held against it too (tests/examples.rs).
 use super::Section;
-use crate::calls::{ReadBody, WriteBody, PRIMITIVES, REQUEST_WRITE, RESPONSE_READS, RESPONSE_WRITE};
+use crate::calls::{ReadBody, WriteBody, METADATA_READ, METADATA_REQUEST_WRITE};
+use crate::calls::{PRIMITIVES, REQUEST_WRITE, RESPONSE_READS, RESPONSE_WRITE};
 use crate::case::Case;
 use crate::model::write::{Own, Value};
 
@@ -11,7 +12,7 @@ pub fn section() -> Section {
 
 /// Each case with the line that answers it.
 pub fn all() -> Vec<(Case, &'static str)> {
-    [primitives(), responses(), further()].into_iter().flatten().collect()
+    [primitives(), responses(), further(), metadata(), lookups(), metadata_requests()].into_iter().flatten().collect()
 }
 
 fn bytes(hex: &str) -> Vec<u8> {
@@ -125,4 +126,91 @@ fn further() -> Vec<(Case, &'static str)> {
         list.extend((0..=3).map(|version| (response(call, version, ""), "no 3 0 0 777*8 777,777,777 kept")));
     }
     list
+}
+
+/// One broker, one topic and one partition at version 1; its in-sync replicas are null.
+const METADATA: &str = "00000001 00000001 0001 68 00002384 ffff 00000001 00000001 0000 0001 74 01 00000001 \
+                        0000 00000000 00000001 00000002 00000001 00000002 ffffffff";
+
+fn metadata_read(version: i16, rooms: [usize; 5], hex: &str) -> Case {
+    Case::ReadBody { call: &METADATA_READ, version, rooms: rooms.to_vec(), message: bytes(hex) }
+}
+
+fn metadata() -> Vec<(Case, &'static str)> {
+    let read = metadata_read;
+    let mut list = vec![
+        (
+            read(1, [8, 5, 5, 2, 0], METADATA),
+            "ok 61 absent 1 absent 1 1 1,10,1,9092,1,0,0,777 0,29,1,1,1 0,0,1,2,-1 1,2 - kept",
+        ),
+        (read(1, [7, 5, 5, 1, 0], METADATA), "no 10 0 2 777*7 777*5 777*5 777 - kept"),
+        (read(1, [6, 4, 5, 1, 0], METADATA), "no 10 0 1 777*6 777*4 777*5 777 - kept"),
+        (read(0, [7, 5, 5, 2, 0], METADATA), "no 4 15 0 777*7 777*5 777*5 777,777 - kept"),
+        (read(2, [7, 5, 5, 2, 0], METADATA), "no 3 29 0 777*7 777*5 777*5 777,777 - kept"),
+        (read(5, [0; 5], METADATA), "no 1 0 0 - - - - - kept"),
+        (read(0, [0; 5], "ffffffff ffffffff 00"), "ok 8 absent 0 absent absent 0 - - - - - kept"),
+        (read(4, [0; 5], "00000000 ffffffff ffff ffffffff ffffffff"), "ok 18 0 0 null -1 0 - - - - - kept"),
+        (read(4, [0; 5], "00000000 ffffffff 0000 ffffffff ffffffff"), "ok 18 0 0 10:- -1 0 - - - - - kept"),
+        (read(3, [0; 5], "00000009 00000000 fffe"), "no 4 8 0 - - - - - kept"),
+        (read(0, [0; 5], "00000000 7fffffff"), "no 3 8 0 - - - - - kept"),
+        (read(0, [0; 5], "00000001 00000001 0002 c080"), "no 7 8 0 - - - - - kept"),
+        // A rack that is absent, and one that is empty.
+        (
+            read(0, [7, 0, 0, 0, 0], "00000001 00000001 0000 00000000 00000000"),
+            "ok 18 absent 1 absent absent 0 1,10,0*5 - - - - kept",
+        ),
+        (
+            read(1, [7, 0, 0, 0, 0], "00000001 00000001 0000 00000000 0000 00000005 00000000"),
+            "ok 24 absent 1 absent 5 0 1,10,0,0,2,16,0 - - - - kept",
+        ),
+        // No flag at version 0, and replicas that are empty.
+        (
+            read(0, [0, 5, 5, 0, 0], "00000000 00000001 fffd 0000 00000001 0003 00000002 ffffffff 00000000 ffffffff"),
+            "ok 34 absent 0 absent absent 1 - -3,12,0,-1,1 3,2,-1,0,-1 - - kept",
+        ),
+    ];
+    list.extend((0..=4).map(|version| (read(version, [0; 5], ""), "no 3 0 0 - - - - - kept")));
+    list
+}
+
+fn lookups() -> Vec<(Case, &'static str)> {
+    let brokers = "00000002 00000001 0000 00002384 00000002 0001 68 00002384 00000000";
+    let twice = "00000002 ffffffff 0001 61 00000000 ffffffff 0001 62 00000000 00000000";
+    let host = |version, node, hex: &str| Case::Host { version, node, message: bytes(hex) };
+    let mut list = vec![
+        (host(0, 1, brokers), "ok 10:-"),
+        (host(0, 2, brokers), "ok 20:68"),
+        (host(0, 3, brokers), "ok none"),
+        (host(0, (1 << 32) + 2, brokers), "ok none"),
+        (host(0, 1, &brokers[..brokers.len() - 2]), "no 3 25 0"),
+        (host(1, 1, brokers), "no 3 20 0"),
+        (host(-1, 1, brokers), "no 1 0 0"),
+        (host(0, -1, twice), "ok 10:61"),
+        (host(0, (1 << 32) - 1, twice), "ok none"),
+        (host(1, 1, METADATA), "ok 10:68"),
+        (host(1, 2, METADATA), "ok none"),
+    ];
+    list.extend((0..=4).map(|version| (host(version, 0, ""), "no 3 0 0")));
+    list
+}
+
+fn metadata_requests() -> Vec<(Case, &'static str)> {
+    let write = |version, room, lent: &str, topics, creation, cells: &[i64]| {
+        put(&METADATA_REQUEST_WRITE, version, room, lent, &[Own::Number(topics), creation], &[cells])
+    };
+    let (unset, yes, no) = (Own::Absent, Own::Flag(true), Own::Flag(false));
+    vec![
+        (write(0, 4, "", -1, unset, &[]), "ok 4 ffffffff kept"),
+        (write(4, 6, "", -1, unset, &[]), "ok 5 ffffffff01a5 kept"),
+        (write(4, 5, "", 0, no, &[]), "ok 5 0000000000 kept"),
+        (write(4, 8, "74", 1, yes, &[0, 1]), "ok 8 0000000100017401 kept"),
+        (write(3, 8, "74", 1, no, &[0, 1]), "ok 7 00000001000174a5 kept"),
+        (write(0, 9, "616263646566", 1, unset, &[0, 6]), "no 10 0 12 a5*9 kept"),
+        (write(0, 4, "74", 1, unset, &[1, 1]), "no 13 0 0 a5a5a5a5 kept"),
+        (write(0, 4, "74", -1, unset, &[0, 1]), "no 13 0 0 a5a5a5a5 kept"),
+        (write(0, 4, "", -2, unset, &[]), "no 13 0 0 a5a5a5a5 kept"),
+        (write(0, 4, "c080", 1, unset, &[0, 2]), "no 7 0 0 a5a5a5a5 kept"),
+        (write(0, 4, &"61".repeat(32_768), 1, unset, &[0, 32_768]), "no 11 0 0 a5a5a5a5 kept"),
+        (write(5, 4, "c080", 7, unset, &[0, 3]), "no 1 0 0 a5a5a5a5 kept"),
+    ]
 }

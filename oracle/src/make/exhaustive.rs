@@ -1,6 +1,6 @@
 //! All strings of a kind, each given to every call of a list.
 use super::Section;
-use crate::calls::{Named, ReadBody, PRIMITIVES, REQUEST_READ, RESPONSE_READS, TAGGED_FIELDS};
+use crate::calls::{Named, ReadBody, METADATA_READ, PRIMITIVES, REQUEST_READ, RESPONSE_READS, TAGGED_FIELDS};
 use crate::case::Case;
 use std::ops::RangeInclusive;
 
@@ -14,15 +14,18 @@ pub enum Ask {
     IsText,
     Primitive(&'static Named),
     Body(&'static ReadBody, i16),
+    /// A lookup at a version.
+    Host(i16),
 }
 
 impl Ask {
-    /// The case; rooms of nothing, a cut row, one, two and three rows take turns.
+    /// The case; rooms of nothing, a cut row, one, two and three rows take turns, and so do nodes.
     pub fn of(self, message: Vec<u8>, turn: u64) -> Case {
         match self {
             Ask::WellFormed => Case::WellFormed(message),
             Ask::IsText => Case::IsText(message),
             Ask::Primitive(call) => Case::Read { call, message },
+            Ask::Host(version) => Case::Host { version, node: [0, 1, 2, -1, -2][(turn % 5) as usize], message },
             Ask::Body(call, version) => {
                 let room = |(rank, width): (usize, &usize)| match (turn / 5u64.pow(rank as u32)) % 5 {
                     0 => 2 * width,
@@ -51,10 +54,26 @@ pub fn long_primitives() -> Vec<Ask> {
     primitives().into_iter().filter(|ask| !matches!(ask, Ask::Primitive(call) if short.contains(&call.read))).collect()
 }
 
-/// Bodies at every version, as a prefix and whole.
+/// Bodies at every version, as a prefix and whole, and lookups.
 pub fn bodies() -> Vec<Ask> {
-    let calls = [&RESPONSE_READS[0], &RESPONSE_READS[1], &REQUEST_READ];
-    calls.iter().flat_map(|call| (0..=3).map(|version| Ask::Body(call, version))).collect()
+    let calls = [&RESPONSE_READS[0], &RESPONSE_READS[1], &REQUEST_READ, &METADATA_READ];
+    let versions = |call: &ReadBody| 0..=call.last.unwrap_or(0);
+    let mut asks: Vec<Ask> =
+        calls.into_iter().flat_map(|call| versions(call).map(move |version| Ask::Body(call, version))).collect();
+    asks.extend(versions(&METADATA_READ).map(Ask::Host));
+    asks
+}
+
+/// Those of all whose answer can depend on a second byte: the others find two bytes too few, or look at none.
+pub fn told_by_two() -> Vec<Ask> {
+    let long = ["int32", "int64", "array_count", "bytes", "nullable_bytes", "records"];
+    let depends = |ask: &Ask| match ask {
+        Ask::Primitive(call) => !long.contains(&call.read),
+        Ask::Body(call, version) => call.last.is_none() || call.name == "request_read" && *version == 3,
+        Ask::Host(_) => false,
+        Ask::WellFormed | Ask::IsText => true,
+    };
+    all().into_iter().filter(depends).collect()
 }
 
 pub fn all() -> Vec<Ask> {
@@ -67,19 +86,24 @@ pub fn strings(asks: Vec<Ask>, alphabet: Vec<u8>, lengths: RangeInclusive<u32>) 
     let each: u64 = lengths.clone().map(|length| letters.pow(length)).sum();
     let size = each * asks.len() as u64;
     Section::new(size, move |index| {
-        let mut rest = index % each;
-        let mut length = *lengths.start();
-        while rest >= letters.pow(length) {
-            rest -= letters.pow(length);
-            length += 1;
-        }
-        let mut message = vec![0; length as usize];
-        for byte in message.iter_mut().rev() {
-            *byte = alphabet[(rest % letters) as usize];
-            rest /= letters;
-        }
-        asks[(index / each) as usize].of(message, index)
+        let message = digits(index % each, letters, *lengths.start()).into_iter().map(|digit| alphabet[digit]);
+        asks[(index / each) as usize].of(message.collect(), index)
     })
+}
+
+/// All strings of digits, from the shortest length on: the one of that index.
+pub fn digits(index: u64, letters: u64, shortest: u32) -> Vec<usize> {
+    let (mut rest, mut length) = (index, shortest);
+    while rest >= letters.pow(length) {
+        rest -= letters.pow(length);
+        length += 1;
+    }
+    let mut digits = vec![0; length as usize];
+    for digit in digits.iter_mut().rev() {
+        *digit = (rest % letters) as usize;
+        rest /= letters;
+    }
+    digits
 }
 
 pub fn any_byte() -> Vec<u8> {

@@ -3,6 +3,7 @@
 pub mod boundaries;
 pub mod examples;
 pub mod exhaustive;
+pub mod metadata;
 pub mod others;
 pub mod reads;
 pub mod rng;
@@ -12,7 +13,7 @@ pub mod written;
 
 use crate::calls::{REQUEST_READ, RESPONSE_READS};
 use crate::case::Case;
-use exhaustive::{all, any_byte, long_primitives, primitives, strings, TELLING};
+use exhaustive::{all, any_byte, long_primitives, primitives, strings, told_by_two, TELLING};
 use rng::Rng;
 
 pub struct Section {
@@ -71,17 +72,20 @@ fn random(seed: u64, size: u64) -> Section {
     Section::new(size, move |index| {
         let rng = &mut Rng::new(seed ^ 2, index);
         match rng.below(100) {
-            0..=21 => reads::primitive(rng),
-            22..=29 => reads::tagged_fields(rng),
-            30..=49 => reads::response(rng),
-            50..=55 => reads::request(rng),
-            56..=69 => writes::primitive(rng),
-            70..=74 => writes::tagged_fields(rng),
-            75..=84 => writes::response(rng),
-            85..=89 => writes::request(rng),
-            90..=94 => others::text(rng),
-            95..=96 => others::part(rng),
-            _ => others::agree(rng),
+            0..=13 => reads::primitive(rng),
+            14..=19 => reads::tagged_fields(rng),
+            20..=33 => reads::response(rng),
+            34..=37 => reads::request(rng),
+            38..=47 => writes::primitive(rng),
+            48..=51 => writes::tagged_fields(rng),
+            52..=58 => writes::response(rng),
+            59..=62 => writes::request(rng),
+            63..=66 => others::text(rng),
+            67 => others::part(rng),
+            68..=69 => others::agree(rng),
+            70..=83 => metadata::read(rng),
+            84..=91 => metadata::host(rng),
+            _ => metadata::requests::request(rng),
         }
     })
 }
@@ -99,16 +103,29 @@ fn fixed(seed: u64) -> Vec<Section> {
         written::of_contents(),
         written::of_bodies(),
         others::agreements(),
+        metadata::ends::counts(seed),
+        metadata::ends::texts(seed),
+        metadata::ends::rooms(),
+        metadata::ends::cuts(seed),
+        metadata::ends::large(),
+        metadata::ends::sizes(seed),
+        metadata::requests::ends(),
+        metadata::requests::sizes(),
     ]
 }
 
-/// The short run's fixed part: all strings of up to two bytes for all reads, and of three and four telling bytes for primitives.
+/// The short run's fixed part: all strings of up to one byte for all reads, of two where a second can matter, of three and four
+/// telling bytes for primitives, and of up to four words for Metadata.
 fn short_fixed(seed: u64) -> Vec<Section> {
     let mut sections = fixed(seed);
-    sections.push(strings(all(), any_byte(), 0..=2));
+    sections.push(strings(all(), any_byte(), 0..=1));
+    sections.push(strings(told_by_two(), any_byte(), 2..=2));
     sections.push(strings(primitives(), TELLING.to_vec(), 3..=4));
     sections.push(crossed(seed, 1_000));
     sections.push(cut(seed, 300));
+    sections.push(metadata::words(4));
+    sections.push(metadata::crossed(seed, 2_000));
+    sections.push(metadata::cut(seed, 300));
     sections
 }
 
@@ -125,7 +142,7 @@ pub fn short(seed: u64, count: u64) -> Result<Vec<Section>, u64> {
 }
 
 /// All strings of two bytes for all reads, of three bytes where a third can matter, of up to six telling bytes for
-/// primitives, and many random inputs.
+/// primitives, of up to six words for Metadata, and many random inputs.
 pub fn long(seed: u64) -> Vec<Section> {
     let mut sections = fixed(seed);
     sections.push(strings(all(), any_byte(), 0..=2));
@@ -133,6 +150,9 @@ pub fn long(seed: u64) -> Vec<Section> {
     sections.push(strings(primitives(), TELLING.to_vec(), 4..=6));
     sections.push(crossed(seed, 200_000));
     sections.push(cut(seed, 50_000));
-    sections.push(random(seed, 20_000_000));
+    sections.push(metadata::words(6));
+    sections.push(metadata::crossed(seed, 200_000));
+    sections.push(metadata::cut(seed, 30_000));
+    sections.push(random(seed, 25_000_000));
     sections
 }

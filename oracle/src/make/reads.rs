@@ -3,12 +3,15 @@ use super::rng::Rng;
 use super::wire::{varied, Wire};
 use crate::calls::{ReadBody, PRIMITIVES, REQUEST_READ, RESPONSE_READS, TAGGED_FIELDS};
 use crate::case::Case;
+use crate::model::api_versions;
 
 /// The most cells that a table is lent with.
 pub const MOST_CELLS: usize = 65_536;
 
-/// Versions that no message has.
-pub const OUTSIDE: [i16; 6] = [-1, -32_768, -2, 4, 5, 32_767];
+/// A version that a message with this last one does not have.
+pub fn outside(rng: &mut Rng, last: i16) -> i16 {
+    rng.pick(&[-1, -32_768, -2, last + 1, last + 2, 32_767])
+}
 
 pub fn primitive(rng: &mut Rng) -> Case {
     let call = &PRIMITIVES[rng.below(PRIMITIVES.len())];
@@ -28,7 +31,7 @@ pub fn tagged_fields(rng: &mut Rng) -> Case {
 
 fn version(rng: &mut Rng) -> i16 {
     if rng.one_in(12) {
-        rng.pick(&OUTSIDE)
+        outside(rng, api_versions::LAST)
     } else {
         rng.pick(&[0, 1, 2, 3, 3, 3])
     }

@@ -113,7 +113,7 @@ impl<'r> Wire<'r> {
         }
     }
 
-    fn sized(&mut self, form: Form, null: Null, is_text: bool) {
+    pub fn sized(&mut self, form: Form, null: Null, is_text: bool) {
         if null != Null::Never && self.rng.one_in(5) {
             return self.bytes.extend(carried(form, u64::MAX));
         }
@@ -141,7 +141,7 @@ impl<'r> Wire<'r> {
         }
     }
 
-    fn array(&mut self, form: Form, element: impl Fn(&mut Self)) {
+    pub fn array(&mut self, form: Form, element: impl Fn(&mut Self)) {
         if self.rng.one_in(10) {
             return self.bytes.extend(carried(form, u64::MAX));
         }

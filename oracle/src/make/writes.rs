@@ -1,5 +1,5 @@
 //! Writes: values that can be written, and values with a fault in them.
-use super::reads::OUTSIDE;
+use super::reads::outside;
 use super::rng::Rng;
 use super::wire::{damage, BOUNDARIES};
 use crate::calls::{WriteBody, PRIMITIVES, REQUEST_WRITE, RESPONSE_WRITE, WRITE_TAGGED_FIELDS};
@@ -51,14 +51,14 @@ fn room(rng: &mut Rng, need: usize) -> usize {
 
 /// Bytes to lend, and rows of tags whose data are parts of them.
 #[derive(Default)]
-struct Lending {
-    lent: Vec<u8>,
+pub struct Lending {
+    pub lent: Vec<u8>,
     tags: Vec<i64>,
 }
 
 impl Lending {
     /// A part: bytes of its own, or some that are there already.
-    fn part(&mut self, rng: &mut Rng, is_text: bool) -> [i64; 2] {
+    pub fn part(&mut self, rng: &mut Rng, is_text: bool) -> [i64; 2] {
         if !is_text && rng.one_in(4) {
             let start = rng.below(self.lent.len() + 1);
             return [start as i64, rng.below((self.lent.len() - start).min(2000) + 1) as i64];
@@ -124,7 +124,7 @@ pub fn request(rng: &mut Rng) -> Case {
 }
 
 /// A version and a room; one value in three gets a fault.
-fn finished(
+pub fn finished(
     rng: &mut Rng,
     call: &'static WriteBody,
     mut lent: Vec<u8>,
@@ -136,8 +136,9 @@ fn finished(
     }
     let version = match call.last {
         None => 0,
-        Some(_) if rng.one_in(12) => rng.pick(&OUTSIDE),
-        Some(_) => rng.pick(&[0, 1, 2, 3, 3, 3]),
+        Some(last) if rng.one_in(12) => outside(rng, last),
+        // The last version has the most fields, so it is taken as often as all others.
+        Some(last) => rng.below(2 * last as usize).min(last as usize) as i16,
     };
     let given = Given { lent: &lent, own: &own, tables: &tables };
     let made = (call.model)(version.clamp(0, call.last.unwrap_or(0)), &given);
@@ -156,6 +157,7 @@ fn fault(rng: &mut Rng, lent: &mut Vec<u8>, own: &mut [Own], tables: &mut [Vec<i
                 Own::Part(start, length) if rng.one_in(2) => Own::Part(strange(rng, start), length),
                 Own::Part(start, length) => Own::Part(start, strange(rng, length)),
                 Own::Number(n) => Own::Number(strange(rng, n)),
+                Own::Flag(flag) => Own::Flag(!flag),
                 Own::Absent => Own::Absent,
             };
         }

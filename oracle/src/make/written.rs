@@ -9,9 +9,9 @@ use crate::model::primitives::Primitive;
 use crate::model::write::{self, Given, Own, Value};
 
 /// Rooms around a need: exact, one short, none, one more, as large as can be.
-const ROOMS: u64 = 5;
+pub const ROOMS: u64 = 5;
 
-fn room(turn: u64, need: usize) -> usize {
+pub fn room(turn: u64, need: usize) -> usize {
     let room = match turn {
         0 => need,
         1 => need.saturating_sub(1),

@@ -10,6 +10,8 @@ const TAG: usize = 3;
 pub enum Own {
     Number(i64),
     Part(i64, i64),
+    /// A Boolean that is set.
+    Flag(bool),
     /// Unset.
     Absent,
 }
@@ -137,7 +139,7 @@ impl Fields {
         }
     }
 
-    fn null(&mut self, form: Form) {
+    pub fn null(&mut self, form: Form) {
         match form {
             Form::Int16 => self.int(2, -1),
             Form::Int32 => self.int(4, -1),

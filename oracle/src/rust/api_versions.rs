@@ -10,7 +10,7 @@ use crate::protocol::primitives::{CompactString, Int16, Int32};
 use crate::token::Token;
 use std::io::Cursor;
 
-fn version(number: i16) -> ApiVersion {
+pub fn version(number: i16) -> ApiVersion {
     ApiVersion(Int16(number))
 }
 
@@ -79,7 +79,7 @@ pub fn write_request(at: i16, given: &Given) -> Result<Written, Silence> {
     Ok(put(body, at))
 }
 
-fn put<T: WriteVersionedType<Vec<u8>>>(body: T, at: i16) -> Written {
+pub fn put<T: WriteVersionedType<Vec<u8>>>(body: T, at: i16) -> Written {
     listen(|| {
         let mut bytes = vec![];
         body.write_versioned(&mut bytes, version(at)).map(|()| bytes)

@@ -1,5 +1,6 @@
 //! The given Rust, asked. It runs as it was given; a panic is heard like any other answer.
 pub mod api_versions;
+pub mod metadata;
 pub mod primitives;
 
 use crate::token::Token;

@@ -1,21 +1,20 @@
--- The place stays inside the part that is looked at.
-use Prim.Native.Nat.{_-_, _≤_}
-use lib.ListN.{length}
+-- The places come to an end.
+use Prim.Native.Nat.{_-_}
 use borrow.Author.Needs.{needs}
 use Rattle.answers.proofs.lent.are_bytes.Statement.{statement}
 use Rattle.answers.proofs.lent.are_bytes.Tie as tie
 
 abbrev Inv-loop : tie.InvT-loop
-Inv-loop made from to i₀ i = to ≤ length made
+Inv-loop made from to i₀ i = Unit {0}
 
 abbrev μ-loop : tie.MeasureT-loop
 μ-loop made from to i₀ i = to - i
 
-returns : tie.Need-returns Inv-loop μ-loop
-returns c = search needs
-
 loop-holds : tie.Need-loop-holds Inv-loop μ-loop
 loop-holds c = search needs
+
+returns : tie.Need-returns Inv-loop μ-loop
+returns c = search needs
 
 shared-slice-read-if2 : tie.Need-shared-slice-read-if2 Inv-loop μ-loop
 shared-slice-read-if2 c = search needs
@@ -41,8 +40,8 @@ are-bytes-spec =
     (tie.spec
     Inv-loop
     μ-loop
-    returns
     loop-holds
+    returns
     shared-slice-read-if2
     returns-2
     add-i

@@ -1,21 +1,20 @@
--- The place stays inside the part that is looked at.
-use Prim.Native.Nat.{_-_, _≤_}
-use lib.ListN.{length}
+-- The places come to an end.
+use Prim.Native.Nat.{_-_}
 use borrow.Author.Needs.{needs}
 use Rattle.answers.proofs.lent.are_cells.Statement.{statement}
 use Rattle.answers.proofs.lent.are_cells.Tie as tie
 
 abbrev Inv-loop : tie.InvT-loop
-Inv-loop table from to i₀ i = to ≤ length table
+Inv-loop table from to i₀ i = Unit {0}
 
 abbrev μ-loop : tie.MeasureT-loop
 μ-loop table from to i₀ i = to - i
 
-returns : tie.Need-returns Inv-loop μ-loop
-returns c = search needs
-
 loop-holds : tie.Need-loop-holds Inv-loop μ-loop
 loop-holds c = search needs
+
+returns : tie.Need-returns Inv-loop μ-loop
+returns c = search needs
 
 mul-if2 : tie.Need-mul-if2 Inv-loop μ-loop
 mul-if2 c = search needs
@@ -44,8 +43,8 @@ are-cells-spec =
     (tie.spec
     Inv-loop
     μ-loop
-    returns
     loop-holds
+    returns
     mul-if2
     shared-slice-read-if2
     returns-2

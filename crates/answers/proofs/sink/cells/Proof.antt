@@ -1,5 +1,4 @@
--- A run has a cell at least, so the runs come to an end; the sink keeps its length.
-use mathlib.Core.Path.{_≡_}
+-- A run has a cell at least, so the runs come to an end.
 use Prim.Native.Nat.{_-_, _≤_}
 use lib.ListN.{length}
 use borrow.Author.Needs.{needs}
@@ -7,25 +6,22 @@ use Rattle.answers.proofs.sink.cells.Statement.{statement}
 use Rattle.answers.proofs.sink.cells.Tie as tie
 
 abbrev Inv-loop : tie.InvT-loop
-Inv-loop out₀ n s m₀ at₀ out m at = (at ≤ length s) × (length out ≡ length out₀)
+Inv-loop t m₀ at₀ m at = at ≤ length t
 
 abbrev μ-loop : tie.MeasureT-loop
-μ-loop out₀ n s m₀ at₀ out m at = length s - at
+μ-loop t m₀ at₀ m at = length t - at
 
-put-requires : tie.Need-put-requires Inv-loop μ-loop
-put-requires c κs = search needs
+slice-aggregate-text : tie.Need-slice-aggregate-text Inv-loop μ-loop
+slice-aggregate-text c = search needs
 
-same-length : tie.Need-same-length Inv-loop μ-loop
-same-length c = search needs
+text-requires : tie.Need-text-requires Inv-loop μ-loop
+text-requires c κs = search needs
 
 returns : tie.Need-returns Inv-loop μ-loop
 returns c = search needs
 
 loop-holds : tie.Need-loop-holds Inv-loop μ-loop
 loop-holds c = search needs
-
-comma-if-requires : tie.Need-comma-if-requires Inv-loop μ-loop
-comma-if-requires c κs = search needs
 
 cells-end-requires : tie.Need-cells-end-requires Inv-loop μ-loop
 cells-end-requires c κs = search needs
@@ -42,14 +38,14 @@ sub-equal-cells c = search needs
 equal-cells-requires : tie.Need-equal-cells-requires Inv-loop μ-loop
 equal-cells-requires c κs = search needs
 
+after-requires : tie.Need-after-requires Inv-loop μ-loop
+after-requires c κs = search needs
+
 loop-less : tie.Need-loop-less Inv-loop μ-loop
 loop-less c = search needs
 
 loop-again : tie.Need-loop-again Inv-loop μ-loop
 loop-again c = search needs
-
-same-length-2 : tie.Need-same-length-2 Inv-loop μ-loop
-same-length-2 c = search needs
 
 returns-2 : tie.Need-returns-2 Inv-loop μ-loop
 returns-2 c = search needs
@@ -60,17 +56,16 @@ cells-spec =
     (tie.spec
     Inv-loop
     μ-loop
-    put-requires
-    same-length
+    slice-aggregate-text
+    text-requires
     returns
     loop-holds
-    comma-if-requires
     cells-end-requires
     mul-equal-cells
     shared-slice-read-equal-cells
     sub-equal-cells
     equal-cells-requires
+    after-requires
     loop-less
     loop-again
-    same-length-2
     returns-2)

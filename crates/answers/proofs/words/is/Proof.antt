@@ -1,15 +1,16 @@
--- The place stays inside both.
-use Prim.Native.Nat.{_-_, _≤_}
+-- The two have the same length, and the place stays inside.
+use mathlib.Core.Path.{_≡_}
+use Prim.Native.Nat.{_-_}
 use lib.ListN.{length}
 use borrow.Author.Needs.{needs}
-use Rattle.answers.proofs.words.begins.Statement.{statement}
-use Rattle.answers.proofs.words.begins.Tie as tie
+use Rattle.answers.proofs.words.is.Statement.{statement}
+use Rattle.answers.proofs.words.is.Tie as tie
 
 abbrev Inv-loop : tie.InvT-loop
-Inv-loop w name i₀ i = (i ≤ length name) × (length name ≤ length w)
+Inv-loop w name i₀ i = length w ≡ length name
 
 abbrev μ-loop : tie.MeasureT-loop
-μ-loop w name i₀ i = length name - i
+μ-loop w name i₀ i = length w - i
 
 returns : tie.Need-returns Inv-loop μ-loop
 returns c = search needs
@@ -38,8 +39,8 @@ loop-again c = search needs
 returns-3 : tie.Need-returns-3 Inv-loop μ-loop
 returns-3 c = search needs
 
-pub begins-spec : {M : Type 1} → statement M
-begins-spec =
+pub is-spec : {M : Type 1} → statement M
+is-spec =
     tie.close
     (tie.spec
     Inv-loop
