@@ -2,8 +2,8 @@
  *
  * The functions hold no state, allocate nothing and keep no pointer. Every answer is a struct of numbers.
  * Each function's promise, which the prover has checked, stands at its definition: crates/gateway/src, and for the bodies
- * of a message crates/gateway_api_versions/src and crates/gateway_metadata/src. All of them are linked from
- * target/staticlib/libbefrolan.a, which tools/staticlib makes.
+ * of a message crates/gateway_api_versions/src, crates/gateway_metadata/src and crates/gateway_fetch/src. All of them are
+ * linked from target/staticlib/libbefrolan.a, which tools/staticlib makes.
  *
  * Slices. A slice is two parameters: a pointer, and how many elements there are. An empty slice has the length 0
  * and still a pointer that is not null and is aligned for its element. What is lent to be written to must not
@@ -42,7 +42,8 @@ enum {
     BEFROLAN_NULL_ITEMS = 8,        /* null items in a whole read. The count's start */
     BEFROLAN_BYTES_LEFT = 9,        /* bytes left over in a whole read. The first of them */
     BEFROLAN_NO_ROOM = 10,          /* a table or the output is too small; `need` tells the rows or bytes needed. Place 0 */
-    BEFROLAN_TOO_WIDE = 11,         /* a number that its type cannot hold; a text or data too long for its length. Its start */
+    BEFROLAN_TOO_WIDE = 11,         /* a number that its type cannot hold; a text or data too long for its length; an
+                                       isolation level other than 0 or 1. Its start */
     BEFROLAN_GROUP_TOO_WIDE = 12,   /* kept from the ported code; no call gives it */
     BEFROLAN_BAD_TABLES = 13        /* counts that do not add up to the rows, or below -1, or -1 where there is neither
                                        null nor unset; a part outside the lent bytes. Place 0 */
@@ -84,8 +85,25 @@ enum {
 /* The number of replicas, of those in sync, and of a request's topics, where the array is null and not just empty. */
 #define BEFROLAN_NULL_COUNT (-1)
 
-/* Kinds. Of a throttle time, a controller, a request's text and a request's auto-creation: absent in the version or
- * unset, or there. Of a rack and a cluster: absent in the version, BEFROLAN_NULL (1), or there.
+/* A topic of a Fetch response: start and length of its name, number of its partitions. */
+#define BEFROLAN_FETCH_TOPIC_CELLS 3
+
+/* A partition of a Fetch response: index, error, high watermark, last stable offset (-1 below version 4, which does not
+ * tell it), number of its aborted transactions (0 below version 4), start and length of its records (a null field is
+ * shown as an empty part). */
+#define BEFROLAN_FETCH_PARTITION_CELLS 7
+
+/* An aborted transaction of a Fetch response: producer, first offset. */
+#define BEFROLAN_ABORTED_CELLS 2
+
+/* A topic of a Fetch request: start and length of its name, number of its partitions. */
+#define BEFROLAN_WANTED_TOPIC_CELLS 3
+
+/* A partition of a Fetch request: index, offset to fetch from, most bytes. */
+#define BEFROLAN_WANTED_PARTITION_CELLS 3
+
+/* Kinds. Of a throttle time, a controller, a request's text, a request's auto-creation, and a Fetch request's max bytes
+ * and isolation level: absent in the version or unset, or there. Of a rack and a cluster: absent in the version, BEFROLAN_NULL (1), or there.
  * To a writer any kind but 0 means that it is there. */
 #define BEFROLAN_ABSENT 0
 #define BEFROLAN_PRESENT 2
@@ -137,6 +155,14 @@ typedef struct {
     int64_t controller;      /* a node */
     int64_t topics;          /* how many; a null array is none */
 } befrolan_metadata_numbers;
+
+/* Of a Fetch response that was read. */
+typedef struct {
+    int64_t number, place, need, used;
+    int64_t throttle_kind; /* BEFROLAN_ABSENT or BEFROLAN_PRESENT */
+    int64_t throttle;
+    int64_t topics;        /* how many; a null array is none */
+} befrolan_fetch_numbers;
 
 /* Of the lookup of a host. `found` is 1 where a broker has the node, also where its host is empty, and 0 where none has. */
 typedef struct {
@@ -225,6 +251,30 @@ befrolan_host_numbers befrolan_find_host(
     const uint8_t *msg, size_t msg_len,
     int16_t version,
     int64_t node);
+
+/* ---- Fetch, versions 0 to 4 */
+
+/* Reads a response at the front of the message. Rows stand as in the body: the partitions of the first topic, then those
+ * of the second; so too the aborted transactions of each partition. Records are shown as parts of the message and not
+ * looked into. Where tables are too small, `need` is the rows of the first of them, in the order of the parameters. */
+befrolan_fetch_numbers befrolan_read_fetch_response(
+    const uint8_t *msg, size_t msg_len,
+    int16_t version,
+    int64_t *topics, size_t topics_len,
+    int64_t *partitions, size_t partitions_len,
+    int64_t *aborted, size_t aborted_len);
+
+/* Writes a request. `body`: replica (-1 for a client), max wait in milliseconds, min bytes, kind of max bytes and max bytes
+ * (from version 3 on; unset it is written as 2147483647), kind of the isolation level and the level, 0 or 1 (in version 4;
+ * unset it is written as 0), number of topics. `topics` and `partitions` have a row each, the partitions of the first topic
+ * first; names are parts of `lent`. */
+befrolan_numbers befrolan_write_fetch_request(
+    uint8_t *out, size_t out_len,
+    int16_t version,
+    const uint8_t *lent, size_t lent_len,
+    const int64_t body[8],
+    const int64_t *topics, size_t topics_len,
+    const int64_t *partitions, size_t partitions_len);
 
 /* ---- primitives, each by itself */
 

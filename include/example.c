@@ -1,5 +1,6 @@
 /* Reads the ApiVersions response that a broker sent at version 0, agrees on versions, and writes the response back. Then
  * asks for a topic at the version agreed on, reads the answer, and finds the host of the node that leads its partition.
+ * Last, asks for what stands in that partition, and shows its records.
  * Exits with 1 where anything is not as it should be.
  *
  *     tools/staticlib
@@ -10,8 +11,8 @@
 #include <stdio.h>
 #include <string.h>
 
-/* error 0, two items: ApiVersions (18), versions 0 to 3; Metadata (3), versions 0 and 1 */
-static const uint8_t offer[18] = {0, 0, 0, 0, 0, 2, 0, 18, 0, 0, 0, 3, 0, 3, 0, 0, 0, 1};
+/* error 0, three items: ApiVersions (18), versions 0 to 3; Metadata (3), versions 0 and 1; Fetch (1), versions 0 to 4 */
+static const uint8_t offer[24] = {0, 0, 0, 0, 0, 3, 0, 18, 0, 0, 0, 3, 0, 3, 0, 0, 0, 1, 0, 1, 0, 0, 0, 4};
 
 /* at version 1: broker 1 with host "h", port 9092 and no rack; controller 1; topic "t", whose partition 0 is led by
  * broker 1, with replicas 1 and 2, and null for those in sync */
@@ -21,8 +22,14 @@ static const uint8_t answer[61] = {
     0, 0, 0, 1, 0, 0, 0, 1, 't', 0, 0, 0, 0, 1,
     0, 0, 0, 0, 0, 0, 0, 0, 0, 1, 0, 0, 0, 2, 0, 0, 0, 1, 0, 0, 0, 2, 0xff, 0xff, 0xff, 0xff};
 
-/* the version of Metadata agreed on, or -1 */
-static int64_t agreed(void)
+/* at version 4: no throttle time; topic "t", whose partition 0 has no error, the offsets 9 and 9, no aborted transactions,
+ * and three bytes of records */
+static const uint8_t fetched[48] = {
+    0, 0, 0, 0, 0, 0, 0, 1, 0, 1, 't', 0, 0, 0, 1,
+    0, 0, 0, 0, 0, 0, 0, 0, 0, 0, 0, 0, 0, 9, 0, 0, 0, 0, 0, 0, 0, 9, 0, 0, 0, 0, 0, 0, 0, 3, 'a', 'b', 'c'};
+
+/* the rows agreed on; 0 where anything is wrong */
+static int agreed(int64_t rows[9])
 {
     int64_t items[4 * BEFROLAN_ITEM_CELLS];
     int64_t tags[4 * BEFROLAN_TAG_CELLS];
@@ -31,35 +38,34 @@ static int64_t agreed(void)
         befrolan_read_api_versions_response(offer, sizeof offer, 0, 1, items, 16, tags, 12);
     if (r.number != BEFROLAN_ACCEPTED) {
         printf("refused with %lld at %lld\n", (long long)r.number, (long long)r.place);
-        return -1;
+        return 0;
     }
     for (int64_t i = 0; i < r.items; i++)
         printf("API %lld: versions %lld to %lld\n", (long long)items[4 * i], (long long)items[4 * i + 1],
                (long long)items[4 * i + 2]);
-    if (r.used != 18 || r.error != 0 || r.items != 2 || r.throttle_kind != BEFROLAN_ABSENT || r.tags != BEFROLAN_UNSET)
-        return -1;
-    static const int64_t listed[8] = {18, 0, 3, BEFROLAN_UNSET, 3, 0, 1, BEFROLAN_UNSET};
+    if (r.used != 24 || r.error != 0 || r.items != 3 || r.throttle_kind != BEFROLAN_ABSENT || r.tags != BEFROLAN_UNSET)
+        return 0;
+    static const int64_t listed[12] = {18, 0, 3, BEFROLAN_UNSET, 3, 0, 1, BEFROLAN_UNSET, 1, 0, 4, BEFROLAN_UNSET};
     if (memcmp(items, listed, sizeof listed) != 0)
-        return -1;
+        return 0;
 
-    int64_t rows[9];
     befrolan_agree(items, (size_t)r.items * BEFROLAN_ITEM_CELLS, rows);
     for (int i = 0; i < 3; i++)
         printf("API %lld: we speak %lld, the broker up to %lld\n", (long long)rows[3 * i], (long long)rows[3 * i + 1],
                (long long)rows[3 * i + 2]);
-    static const int64_t spoken[9] = {18, 3, 3, 3, 1, 1, 1, -1, -1};
-    if (memcmp(rows, spoken, sizeof rows) != 0)
-        return -1;
+    static const int64_t spoken[9] = {18, 3, 3, 3, 1, 1, 1, 4, 4};
+    if (memcmp(rows, spoken, sizeof spoken) != 0)
+        return 0;
 
     /* the own row, as it was read; no data are lent, so an empty slice with a pointer that is not null */
     int64_t body[5] = {r.error, r.items, r.throttle_kind, r.throttle, r.tags};
     uint8_t out[64];
     befrolan_numbers w = befrolan_write_api_versions_response(out, sizeof out, 0, offer, 0, body, items,
-                                                              2 * BEFROLAN_ITEM_CELLS, tags, 0);
+                                                              3 * BEFROLAN_ITEM_CELLS, tags, 0);
     if (w.number != BEFROLAN_ACCEPTED || w.used != (int64_t)sizeof offer || memcmp(out, offer, sizeof offer) != 0)
-        return -1;
+        return 0;
     printf("written back: %lld bytes, the same\n", (long long)w.used);
-    return rows[4];
+    return 1;
 }
 
 /* asks for the topic "t"; auto-creation is unset */
@@ -95,10 +101,48 @@ static int found(int16_t version)
     return 1;
 }
 
+/* asks for partition 0 of the topic "t" from offset 7 on: as a client, within half a second, at least a byte; max bytes
+ * and isolation level are unset */
+static int wanted(int16_t version)
+{
+    static const uint8_t name[1] = {'t'};
+    static const uint8_t request[44] = {
+        0xff, 0xff, 0xff, 0xff, 0, 0, 1, 0xf4, 0, 0, 0, 1, 0x7f, 0xff, 0xff, 0xff, 0,
+        0, 0, 0, 1, 0, 1, 't', 0, 0, 0, 1, 0, 0, 0, 0, 0, 0, 0, 0, 0, 0, 0, 7, 0, 0x10, 0, 0};
+    static const int64_t body[8] = {-1, 500, 1, BEFROLAN_ABSENT, 0, BEFROLAN_ABSENT, 0, 1};
+    static const int64_t topics[BEFROLAN_WANTED_TOPIC_CELLS] = {0, 1, 1};
+    static const int64_t partitions[BEFROLAN_WANTED_PARTITION_CELLS] = {0, 7, 1048576};
+    uint8_t out[64];
+    befrolan_numbers w = befrolan_write_fetch_request(out, sizeof out, version, name, sizeof name, body, topics,
+                                                      BEFROLAN_WANTED_TOPIC_CELLS, partitions, BEFROLAN_WANTED_PARTITION_CELLS);
+    return w.number == BEFROLAN_ACCEPTED && w.used == 44 && memcmp(out, request, sizeof request) == 0;
+}
+
+/* shows the records of the first partition: they are a part of the message, and not copied */
+static int shown(int16_t version)
+{
+    int64_t topics[4 * BEFROLAN_FETCH_TOPIC_CELLS], partitions[4 * BEFROLAN_FETCH_PARTITION_CELLS];
+    int64_t aborted[4 * BEFROLAN_ABORTED_CELLS];
+
+    befrolan_fetch_numbers r =
+        befrolan_read_fetch_response(fetched, sizeof fetched, version, topics, 12, partitions, 28, aborted, 8);
+    if (r.number != BEFROLAN_ACCEPTED) {
+        printf("refused with %lld at %lld\n", (long long)r.number, (long long)r.place);
+        return 0;
+    }
+    static const int64_t row[BEFROLAN_FETCH_PARTITION_CELLS] = {0, 0, 9, 9, 0, 45, 3};
+    if (r.used != 48 || r.topics != 1 || topics[2] != 1 || memcmp(partitions, row, sizeof row) != 0)
+        return 0;
+    printf("partition %lld has records up to %lld: %.*s\n", (long long)partitions[0], (long long)partitions[2],
+           (int)partitions[6], (const char *)fetched + partitions[5]);
+    return 1;
+}
+
 int main(void)
 {
-    int64_t version = agreed();
-    if (version != 1)
+    int64_t rows[9];
+    if (!agreed(rows) || rows[4] != 1 || rows[7] != 4)
         return 1;
-    return asked((int16_t)version) && found((int16_t)version) ? 0 : 1;
+    int16_t metadata = (int16_t)rows[4], fetch = (int16_t)rows[7];
+    return asked(metadata) && found(metadata) && wanted(fetch) && shown(fetch) ? 0 : 1;
 }

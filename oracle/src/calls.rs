@@ -2,7 +2,7 @@
 use crate::line::Refusal;
 use crate::model::primitives::{Form, Null, Primitive};
 use crate::model::write::{Given, Own};
-use crate::model::{api_versions, metadata, primitives, write, Shown};
+use crate::model::{api_versions, fetch, metadata, primitives, write, Shown};
 use crate::rust;
 use crate::token::Token;
 
@@ -99,6 +99,17 @@ pub static METADATA_READ: ReadBody = ReadBody {
     rust: rust::metadata::read_response,
 };
 
+/// The Fetch response.
+pub static FETCH_READ: ReadBody = ReadBody {
+    name: "fetch_read",
+    last: Some(fetch::LAST),
+    widths: &fetch::WIDTHS,
+    whole: false,
+    model: fetch::read_response,
+    spell: fetch::spell_response,
+    rust: rust::fetch::read_response,
+};
+
 /// A write from tables.
 pub struct WriteBody {
     pub name: &'static str,
@@ -146,4 +157,13 @@ pub static METADATA_REQUEST_WRITE: WriteBody = WriteBody {
     model: metadata::write_request,
     rust: rust::metadata::write_request,
     unavailable: metadata::without_creation,
+};
+
+/// The Fetch request.
+pub static FETCH_REQUEST_WRITE: WriteBody = WriteBody {
+    name: "fetch_request_write",
+    last: Some(fetch::LAST),
+    model: fetch::write_request,
+    rust: rust::fetch::write_request,
+    unavailable: never,
 };

@@ -254,7 +254,11 @@ fn judge_written<'a>(
     let answer = Answer { reply, lent: vec![output] };
     match ask() {
         Err(silence) => {
-            let entry = outside.or((silence == Silence::CannotHold).then_some(12));
+            let entry = outside.or(match silence {
+                Silence::CannotHold => Some(12),
+                Silence::NoSuchLevel => Some(11),
+                Silence::NotCompared => None,
+            });
             Verdict { answer, voice: Voice::RulesAlone, entry, complaint: None }
         }
         Ok(heard) => {

@@ -8,7 +8,7 @@ use std::fmt::{Display, Formatter, Result};
 const MOST_SHOWN: usize = 20;
 
 /// The entries of docs/DIFFERENCES.md that an input can fall under here.
-const ENTRIES: [(u8, &str); 9] = [
+const ENTRIES: [(u8, &str); 10] = [
     (1, "versions below 0"),
     (2, "versions above the range"),
     (3, "compact bytes of length 0"),
@@ -17,6 +17,7 @@ const ENTRIES: [(u8, &str); 9] = [
     (7, "too little room"),
     (9, "null items, whole read"),
     (10, "bytes behind the body, whole read"),
+    (11, "isolation levels other than 0 and 1"),
     (12, "values that the Rust's types cannot hold"),
 ];
 

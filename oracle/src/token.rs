@@ -32,6 +32,28 @@ pub fn of_word<'a>(word: &Word<'a>) -> Token<'a> {
     }
 }
 
+/// The bytes that two cells, start and length, speak of.
+pub fn contents<'a>(message: &'a [u8], cells: &[i64]) -> &'a [u8] {
+    &message[cells[0] as usize..][..cells[1] as usize]
+}
+
+/// Cells of rows, spelled one behind the other.
+pub struct Spelling<'a> {
+    pub message: &'a [u8],
+    pub tokens: Vec<Token<'a>>,
+}
+
+impl<'a> Spelling<'a> {
+    pub fn numbers(&mut self, cells: &[i64]) {
+        self.tokens.extend(cells.iter().map(|cell| Token::number(*cell)));
+    }
+
+    /// Start and length of a text or of data.
+    pub fn part(&mut self, cells: &[i64]) {
+        self.tokens.push(Token::Contents(Cow::Borrowed(contents(self.message, cells))));
+    }
+}
+
 /// Tags of a message, spelled from shown rows (tag, start, length): their count, where -1 is absent, and so many rows.
 pub fn put_tags<'a>(tokens: &mut Vec<Token<'a>>, count: i128, rows: &mut ChunksExact<i64>, message: &'a [u8]) {
     if count == -1 {
@@ -39,8 +61,7 @@ pub fn put_tags<'a>(tokens: &mut Vec<Token<'a>>, count: i128, rows: &mut ChunksE
     }
     tokens.push(Token::Number(count));
     for row in rows.take(count as usize) {
-        let (start, length) = (row[1] as usize, row[2] as usize);
         tokens.push(Token::number(row[0] as u64));
-        tokens.push(Token::Contents(Cow::Borrowed(&message[start..start + length])));
+        tokens.push(Token::Contents(Cow::Borrowed(contents(message, &row[1..3]))));
     }
 }

@@ -1,5 +1,6 @@
 //! The worked examples of docs/RULES.md, and the inputs of docs/DIFFERENCES.md that are calls here.
-use oracle::calls::{METADATA_READ, METADATA_REQUEST_WRITE, PRIMITIVES, RESPONSE_READS, RESPONSE_WRITE};
+use oracle::calls::{FETCH_READ, FETCH_REQUEST_WRITE, METADATA_READ, METADATA_REQUEST_WRITE};
+use oracle::calls::{PRIMITIVES, RESPONSE_READS, RESPONSE_WRITE};
 use oracle::case::Case;
 use oracle::judge::{judge, Voice};
 use oracle::make::examples;
@@ -195,4 +196,60 @@ fn differences_in_sizes_of_metadata() {
 fn differences_in_what_a_metadata_request_can_say() {
     differs(&metadata_request(4, 9, &[0xc0, 0x80], 1, Own::Absent), 12, "no 7 0 0 ");
     differs(&metadata_request(4, 9, &[b'a'; 32_768], 1, Own::Absent), None, "no 11 0 0 ");
+}
+
+fn fetch(version: i16, message: &[u8]) -> Case {
+    Case::ReadBody { call: &FETCH_READ, version, rooms: vec![0; 3], message: message.to_vec() }
+}
+
+/// A Fetch request for one topic of that name and so many partitions.
+fn fetch_request(version: i16, room: usize, name: &[u8], partitions: usize, isolation: Own) -> Case {
+    let own = [-1, 500, 1].map(Own::Number).into_iter().chain([Own::Absent, isolation, Own::Number(1)]).collect();
+    let tables = vec![vec![0, name.len() as i64, partitions as i64], [0, 1, 2].repeat(partitions)];
+    Case::WriteBody { call: &FETCH_REQUEST_WRITE, room, version, lent: name.to_vec(), own, tables }
+}
+
+#[test]
+fn differences_in_versions_of_fetch() {
+    for version in [-1, -32_768] {
+        differs(&fetch(version, &[0; 8]), 1, "no 1 0 0 ");
+        differs(&fetch_request(version, 9, b"t", 1, Own::Absent), 1, "no 1 0 0 ");
+        assert!(matches!(rust::fetch::read_response(version, &[0; 8]), Heard::Gave((_, 4))));
+    }
+    differs(&fetch(5, &[0; 8]), 2, "no 1 0 0 ");
+    differs(&fetch_request(5, 9, b"t", 1, Own::Absent), 2, "no 1 0 0 ");
+    assert!(matches!(rust::fetch::read_response(5, &[0; 8]), Heard::Panicked(_)));
+}
+
+#[test]
+fn differences_in_sizes_of_fetch() {
+    differs(&fetch_request(4, 1_048_640, b"t", 70_000, Own::Absent), 5, "no 2 0 0 ");
+    differs(&fetch_request(4, 1_048_640, b"t", 65_534, Own::Absent), None, "ok 1048572 ");
+    differs(&fetch_request(4, 1_048_640, b"abcde", 65_534, Own::Absent), None, "ok 1048576 ");
+    differs(&fetch_request(4, 1_048_640, b"abcdef", 65_534, Own::Absent), 5, "no 2 0 0 ");
+    differs(&fetch_request(0, 38, b"t", 1, Own::Absent), 7, "no 10 0 39 ");
+    differs(&fetch(0, &vec![0; 1_048_577]), 5, "no 2 0 0 ");
+    differs(&fetch(0, &vec![0; 1_048_576]), None, "ok 4 ");
+}
+
+#[test]
+fn differences_in_isolation() {
+    differs(&fetch_request(4, 44, b"t", 1, Own::Number(2)), 11, "no 11 0 0 ");
+    differs(&fetch_request(3, 43, b"t", 1, Own::Number(2)), 11, "ok 43 ");
+    differs(&fetch_request(4, 44, b"t", 1, Own::Number(1)), None, "ok 44 ffffffff000001f4000000017fffffff0100000001");
+    differs(&fetch_request(4, 44, b"t", 1, Own::Number(0)), None, "ok 44 ffffffff000001f4000000017fffffff0000000001");
+}
+
+/// And entry 6: the Rust has fields out already when it refuses the second name.
+#[test]
+fn differences_in_what_a_fetch_request_can_say() {
+    differs(&fetch_request(4, 9, &[0xc0, 0x80], 1, Own::Absent), 12, "no 7 0 0 ");
+    differs(&fetch_request(4, 9, &[b'a'; 32_768], 1, Own::Absent), None, "no 11 0 0 ");
+    let Case::WriteBody { call, room, version, mut own, .. } = fetch_request(4, 9, b"t", 1, Own::Absent) else {
+        unreachable!()
+    };
+    own[5] = Own::Number(2);
+    let tables = vec![vec![0, 1, 1, 0, 32_768, 0], vec![0, 1, 2]];
+    let case = Case::WriteBody { call, room, version, lent: vec![b't'; 32_768], own, tables };
+    differs(&case, None, "no 11 0 0 a5*9 kept");
 }

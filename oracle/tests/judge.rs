@@ -1,12 +1,12 @@
 //! Would a wrong rule be noticed? Readers and writers with one slip each, held against the Rust.
-use oracle::calls::{never, response, ReadBody, WriteBody, METADATA_READ, METADATA_REQUEST_WRITE};
-use oracle::calls::{RESPONSE_READS, RESPONSE_WRITE};
+use oracle::calls::{never, response, ReadBody, WriteBody, FETCH_READ, FETCH_REQUEST_WRITE};
+use oracle::calls::{METADATA_READ, METADATA_REQUEST_WRITE, RESPONSE_READS, RESPONSE_WRITE};
 use oracle::case::Case;
 use oracle::judge::judge;
 use oracle::line::{Refusal, Word};
-use oracle::make::{metadata as made, reads, rng::Rng, writes, Section};
+use oracle::make::{fetch as fetched, metadata as made, reads, rng::Rng, writes, Section};
 use oracle::model::write::{Given, Own};
-use oracle::model::{api_versions, metadata, Shown};
+use oracle::model::{api_versions, fetch, metadata, Shown};
 use oracle::rust;
 
 /// The prefix read of a response, but for its model.
@@ -95,23 +95,30 @@ fn slips_in_writing_are_noticed() {
     assert_eq!(complaints(written(&NEVER, writes::response)), 0);
 }
 
-/// The read of a Metadata response, with one slip in what it shows.
-macro_rules! metadata_slip {
-    ($change:expr) => {
+/// The read of a response, with one slip in what it shows.
+macro_rules! shown_slip {
+    ($call:ident, $change:expr) => {
         ReadBody {
-            name: "metadata_read",
-            last: Some(4),
-            widths: &metadata::WIDTHS,
-            whole: false,
             model: |version, whole, message| {
-                let mut shown = metadata::read_response(version, whole, message)?;
+                let mut shown = ($call.model)(version, whole, message)?;
                 let change: fn(&mut Shown) = $change;
                 change(&mut shown);
                 Ok(shown)
             },
-            spell: metadata::spell_response,
-            rust: rust::metadata::read_response,
+            ..$call
         }
+    };
+}
+
+macro_rules! metadata_slip {
+    ($change:expr) => {
+        shown_slip!(METADATA_READ, $change)
+    };
+}
+
+macro_rules! fetch_slip {
+    ($change:expr) => {
+        shown_slip!(FETCH_READ, $change)
     };
 }
 
@@ -195,6 +202,109 @@ fn slips_in_writing_metadata_are_noticed() {
     assert_eq!(requests(&METADATA_REQUEST_WRITE), 0);
     for call in [&UNSET_IS_FALSE, &NULL_IS_EMPTY, &CREATION_AT_THREE, &NO_ENTRY_4] {
         assert!(requests(call) > 20);
+    }
+}
+
+/// Each row of a table that a Fetch response shows.
+fn each_row(shown: &mut Shown, table: usize, change: fn(&mut [i64])) {
+    shown.tables[table].chunks_exact_mut(fetch::WIDTHS[table]).for_each(change);
+}
+
+static PAIRS_SWAPPED: ReadBody = fetch_slip!(|shown| each_row(shown, 2, |pair| pair.swap(0, 1)));
+static PAIRS_LEFT_OVER: ReadBody = fetch_slip!(|shown| each_row(shown, 1, |partition| partition[4] = 0));
+static ONE_PAIR_MORE: ReadBody = fetch_slip!(|shown| shown.tables[2].extend([0, 0]));
+static STABLE_FOR_WATERMARK: ReadBody = fetch_slip!(|shown| each_row(shown, 1, |partition| partition.swap(2, 3)));
+static ZERO_FOR_NO_STABLE: ReadBody =
+    fetch_slip!(|shown| each_row(shown, 1, |partition| partition[3] = partition[3].max(0)));
+static ERROR_UNSIGNED: ReadBody = fetch_slip!(|shown| each_row(shown, 1, |partition| partition[1] &= 0xffff));
+static RECORDS_EARLY: ReadBody = fetch_slip!(|shown| each_row(shown, 1, |partition| partition[5] -= 1));
+static RECORDS_CUT: ReadBody = fetch_slip!(|shown| each_row(shown, 1, |partition| partition[6] -= partition[6].min(1)));
+static PARTITIONS_LEFT_OVER: ReadBody = fetch_slip!(|shown| each_row(shown, 0, |topic| topic[2] -= topic[2].min(1)));
+static TOPICS_MISCOUNTED: ReadBody = fetch_slip!(|shown| shown.own[1] = Word::Number(1));
+static STABLE_AT_THREE: ReadBody = ReadBody {
+    model: |version, whole, message| fetch::read_response(if version == 3 { 4 } else { version }, whole, message),
+    ..FETCH_READ
+};
+static NO_THROTTLE_AT_ONE: ReadBody = ReadBody {
+    model: |version, whole, message| fetch::read_response(if version == 1 { 0 } else { version }, whole, message),
+    ..FETCH_READ
+};
+
+fn fetch_bodies(call: &'static ReadBody) -> impl Iterator<Item = Case> {
+    (0..3000).map(move |index| {
+        let mut rng = Rng::new(11, index);
+        let version = rng.below(5) as i16;
+        let message = fetched::response_bytes(&mut rng, version);
+        Case::ReadBody { call, version, rooms: vec![64; 3], message }
+    })
+}
+
+#[test]
+fn slips_in_reading_fetch_are_noticed() {
+    assert_eq!(complaints(fetch_bodies(&FETCH_READ)), 0);
+    let slips = [
+        &PAIRS_SWAPPED,
+        &PAIRS_LEFT_OVER,
+        &ONE_PAIR_MORE,
+        &STABLE_FOR_WATERMARK,
+        &ZERO_FOR_NO_STABLE,
+        &ERROR_UNSIGNED,
+        &RECORDS_EARLY,
+        &RECORDS_CUT,
+        &PARTITIONS_LEFT_OVER,
+        &TOPICS_MISCOUNTED,
+        &STABLE_AT_THREE,
+        &NO_THROTTLE_AT_ONE,
+    ];
+    for (which, call) in slips.into_iter().enumerate() {
+        assert!(complaints(fetch_bodies(call)) > 20, "slip {which}");
+    }
+}
+
+/// The writer of a Fetch request that is given some own words otherwise where they are unset.
+macro_rules! fetch_unset {
+    ($word:expr, $number:expr) => {
+        WriteBody {
+            model: |version, given| {
+                let mut own = given.own.to_vec();
+                own[$word] = Own::Number(own[$word].or($number));
+                fetch::write_request(version, &Given { own: &own, ..*given })
+            },
+            ..FETCH_REQUEST_WRITE
+        }
+    };
+}
+
+static NO_BYTES_FOR_ALL: WriteBody = fetch_unset!(3, 0);
+static COMMITTED_FOR_UNSET: WriteBody = fetch_unset!(4, 1);
+static LEVEL_AT_THREE: WriteBody = WriteBody {
+    model: |version, given| fetch::write_request(if version == 3 { 4 } else { version }, given),
+    ..FETCH_REQUEST_WRITE
+};
+static LEAST_FOR_WAIT: WriteBody = WriteBody {
+    model: |version, given| {
+        let mut own = given.own.to_vec();
+        own.swap(1, 2);
+        fetch::write_request(version, &Given { own: &own, ..*given })
+    },
+    ..FETCH_REQUEST_WRITE
+};
+static PARTITIONS_REVERSED: WriteBody = WriteBody {
+    model: |version, given| {
+        let mut tables = given.tables.to_vec();
+        tables[1] = given.rows(1, 3).into_iter().rev().flatten().copied().collect();
+        fetch::write_request(version, &Given { tables: &tables, ..*given })
+    },
+    ..FETCH_REQUEST_WRITE
+};
+
+#[test]
+fn slips_in_writing_fetch_are_noticed() {
+    let requests = |call| complaints(written(call, fetched::requests::request));
+    assert_eq!(requests(&FETCH_REQUEST_WRITE), 0);
+    let slips = [&NO_BYTES_FOR_ALL, &COMMITTED_FOR_UNSET, &LEVEL_AT_THREE, &LEAST_FOR_WAIT, &PARTITIONS_REVERSED];
+    for (which, call) in slips.into_iter().enumerate() {
+        assert!(requests(call) > 20, "slip {which}");
     }
 }
 

@@ -1,28 +1,18 @@
 // Answers questions about the library: a case a line on standard input, an answer a line on standard output. docs/ANSWERS.md says how both look.
 // A line is looked at twice: first whether it is a case, then for what it gives, where it is needed. So all that is handed down is the line,
 // and what is lent to a call stands in arrays of the function that calls.
-use grammar::Found;
-use grammar::all_fit;
-use grammar::listed;
+ghost use Prim.Native.Nat.{_≤_};
 use libc::STDIN_FILENO;
 use libc::STDOUT_FILENO;
-use words::behind;
-use words::between;
-use words::find;
-use words::word;
+use lines_read::Case;
+use lines_read::behind;
+use lines_read::between;
+use lines_read::case_of;
+use lines_read::find;
+use lines_written::sink::Sink;
+use lines_written::sink::text;
 
-mod calls_lent;
-mod calls_metadata;
-mod calls_read;
-mod calls_written;
 mod given;
-mod grammar;
-mod lent;
-mod literals;
-mod pieces;
-mod replies;
-mod sink;
-mod words;
 
 // No line is longer. The buffer has room for one, and for more to read behind it.
 const LINE: usize = 262144;
@@ -31,6 +21,13 @@ const LINE: usize = 262144;
 
 fn bad() {
     io::write_all(STDOUT_FILENO, b"bad case\n");
+}
+
+// The end of a line, and all of it is handed on.
+fn handed(s: Sink) {
+    let last = text(s, b"\n");
+    let bytes = last.bytes;
+    io::write_all(STDOUT_FILENO, between(&bytes, 0, last.n));
 }
 
 // Calls have the numbers of their places in the list; primitives, read and written, stand in the order of their kinds.
@@ -52,17 +49,13 @@ fn answer(line: &[u8]) {
         write_string OB write_nullable_string OY write_compact_string OB write_compact_nullable_string OY \
         write_tagged_fields OBND \
         response_read VRRB response_read_whole VRRB response_read_answer VRRB \
-        request_read VRB response_write OVBNNTNCD request_write OVBPPND agree C metadata_read VRRRRRB metadata_request_write OVBNAC host VNB";
-    match listed(list, word(line, 0)) {
-        Found::At { call, place } => {
-            let letters = between(list, place, find(list, place, b' '));
-            if all_fit(letters, line) {
-                given::answer(call, letters, line);
-            } else {
-                bad();
-            }
+        request_read VRB response_write OVBNNTNCD request_write OVBPPND agree C metadata_read VRRRRRB metadata_request_write OVBNAC host VNB \
+        fetch_read VRRRB fetch_request_write OVBNNNTTNCD";
+    match case_of(list, line) {
+        Case::Is { call, from, to } => {
+            handed(given::answer(call, between(list, from, to), line));
         }
-        Found::Nothing => bad(),
+        Case::Bad => bad(),
     }
 }
 

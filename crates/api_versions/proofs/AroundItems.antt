@@ -4,9 +4,9 @@ use mathlib.Core.List.{List, [], _++_, _∷_}
 use mathlib.Core.Path.{_∙_, _≡_, ap, refl, sym}
 use Prim.Native.Nat.{ℕ}
 use lib.ListN.{drop}
-use Rattle.layout.specs.Reading.{Refusal, Res, bad, give, loop, more, ok, then}
+use Rattle.layout.specs.Reading.{Reader, Refusal, Res, bad, give, loop, more, ok, then}
 use Rattle.layout.specs.Primitives.{cell, keeps, w16, w32}
-use Rattle.layout.specs.Rows.{Shape, array, items, stands}
+use Rattle.layout.specs.Rows.{Shape, array, end, items, number, optional, stands}
 use Rattle.layout.specs.Read.{readBasic}
 use Rattle.layout.specs.Tables.{absentCells, cells, readRows, width}
 use Rattle.layout.proofs.Maps.{then-assoc}
@@ -14,46 +14,31 @@ use Rattle.primitives.specs.Answers.{ofRefusal}
 use Rattle.primitives.specs.declared.Refusal as Code
 use Rattle.places.specs.Moved.{arrayItems}
 use Rattle.rows.specs.Store.{State, Tab, add, own, put, store, tab}
-use Rattle.rows.specs.Walk.{Places, Runs, on, walk}
+use Rattle.rows.specs.Walk.{Places, Runs, on, rowFrom, walk}
 use Rattle.rows.proofs.Arrays.{items-no, items-no-count, items-took}
 use Rattle.rows.proofs.Front.{then-give}
 use Rattle.rows.proofs.Steps.{give-took, then-no, then-took}
 use Rattle.tags.specs.Answers as Tags
+use Rattle.versioned.specs.Cells.{ofVersion, versionedCells}
+use Rattle.versioned.specs.declared.Version.{Version}
+use Rattle.versioned.specs.declared.Versioned.{Versioned}
 use Rattle.tags.specs.declared.Walked.{Walked}
-use Rattle.api_versions.specs.Answers.{ofThrottle}
 use Rattle.api_versions_items.specs.Shapes.{keyShape, tagsIf}
 use Rattle.api_versions.specs.Shapes.{bodyShape, tailShape}
 use Rattle.api_versions_items.specs.Walks.{inTables, rowsIs}
-use Rattle.api_versions.specs.Walks.{Before, behindItems, finish, ofMeasured, ofTail, ofThrottled, throttle}
-use Rattle.api_versions.specs.declared.Throttle.{Throttle}
+use Rattle.api_versions.specs.Walks.{Before, behindItems, finish, ofMeasured, ofTail}
 use Rattle.api_versions_items.specs.declared.Rows.{Rows}
 use Rattle.api_versions.specs.declared.response.Tail.{Tail}
-use Rattle.api_versions.specs.declared.response.Throttled.{Throttled}
 use Rattle.api_versions.specs.declared.response.Measured.{Measured}
 
--- ---- the throttle time
-
-module _ (t : Bool) (s : List ℕ) (p : ℕ) where
-  of-flag : (b : Bool) → t ≡ b → {z : Res (List ℕ)} → z ≡ on (throttle b) s p → z ≡ on (throttle t) s p
-  of-flag b e d = d ∙ ap (λ (x : Bool). on (throttle x) s p) (sym e)
-
-  pub throttle-absent : t ≡ false → ok (0 ∷ 0 ∷ []) p ≡ on (throttle t) s p
-  unfolding throttle
-  throttle-absent e = of-flag false e (give-took (0 ∷ 0 ∷ []) s p)
-
-  module _ (e : t ≡ true) where
-    pub throttle-took : (n q : ℕ) → ok n q ≡ on (cell w32) s p → ok (2 ∷ n ∷ []) q ≡ on (throttle t) s p
-    unfolding throttle
-    throttle-took n q d = of-flag true e (then-took (cell w32) _ s p d (give-took (2 ∷ n ∷ []) s q))
-
-    pub throttle-no : (c : Refusal) → bad c ≡ on (cell w32) s p → bad c ≡ on (throttle t) s p
-    unfolding throttle
-    throttle-no c d = of-flag true e (then-no (cell w32) _ s p d)
+-- the throttle time, where the version has one
+abbrev throttle : Bool → Reader (List ℕ)
+throttle t = rowFrom [] (stands t (optional (0 ∷ []) (number w32)) end)
 
 -- ---- the tail
 
 tail-is : (w t f : Bool) (st : State) (p : ℕ) (s : List ℕ) → then (throttle t) (λ cs. walk w (tagsIf f 2) 0 (add 0 cs st)) p s ≡ walk w (tailShape t f) 0 st p s
-unfolding throttle tailShape stands readRows readBasic cells absentCells width
+unfolding rowFrom tailShape stands readRows readBasic cells absentCells width
 tail-is w true f st p s =
     sym (then-assoc (cell w32) (λ n. give (2 ∷ n ∷ [])) (λ cs. walk w (tagsIf f 2) 0 (add 0 cs st)) p s)
     ∙ (λ i. then (cell w32) (λ n q u. then-give (2 ∷ n ∷ []) (λ cs. walk w (tagsIf f 2) 0 (add 0 cs st)) q u i) p s)
@@ -64,33 +49,33 @@ around : Tab → Places
 unfolding add
 around x = record { h = λ y z. y ∷ x ∷ z ∷ []; o = 0; t = 2; row-law = λ y z ds. refl; items-law = λ y z ds. refl }
 
-module _ (t f : Bool) (s : List ℕ) (p : ℕ) (ts : List ℕ) (m : ℕ) (r : Throttled) (h : ofThrottled r ≡ on (throttle t) s p) where
+module _ (t f : Bool) (s : List ℕ) (p : ℕ) (ts : List ℕ) (m : ℕ) (r : Version) (h : ofVersion r ≡ on (throttle t) s p) where
   on-tail : (e : Before) → on (then (throttle t) (λ cs. walk (e .whole) (tagsIf f 2) 0 (add 0 cs (behindItems ts m e)))) s p ≡ on (walk (e .whole) (tailShape t f) 0 (behindItems ts m e)) s p
   unfolding on
   on-tail e = ap (more p) (tail-is (e .whole) t f (behindItems ts m e) p (drop p s))
 
-  pub tail-no : (c : Code.Refusal) → r ≡ Throttled.Refused c → Runs (λ e. walk (e .whole) (tailShape t f) 0) s p (behindItems ts m) (λ e. bad (ofRefusal c))
-  tail-no c d = record { law = λ e. then-no (throttle t) _ s p (ap ofThrottled (sym d) ∙ h) ∙ on-tail e }
+  pub tail-no : (c : Code.Refusal) → r ≡ Version.Refused c → Runs (λ e. walk (e .whole) (tailShape t f) 0) s p (behindItems ts m) (λ e. bad (ofRefusal c))
+  tail-no c d = record { law = λ e. then-no (throttle t) _ s p (ap ofVersion (sym d) ∙ h) ∙ on-tail e }
 
-  module _ (x : Throttle) (n : ℕ) (d : r ≡ Throttled.Took x n) (ts′ : List ℕ) (z : Walked) (l : Runs (λ e. walk (e .0) (tagsIf f (e .1 .t)) (e .1 .o)) s n (Tags.inTables ts m) (Tags.inTablesIs ts′ z)) where
+  module _ (x : Versioned) (n : ℕ) (d : r ≡ Version.Took x n) (ts′ : List ℕ) (z : Walked) (l : Runs (λ e. walk (e .0) (tagsIf f (e .1 .t)) (e .1 .o)) s n (Tags.inTables ts m) (Tags.inTablesIs ts′ z)) where
     -- the own row once the throttle time is there
     abbrev timed : Before → Tab
-    timed e = store (own (e .error ∷ e .count ∷ [])) (ofThrottle x)
+    timed e = store (own (e .error ∷ e .count ∷ [])) (versionedCells x)
 
     from-throttle : (e : Before) → Tags.inTablesIs ts′ z (e .whole, around (e .items), timed e) ≡ on (walk (e .whole) (tailShape t f) 0 (behindItems ts m e)) s p
     unfolding around add
-    from-throttle e = then-took (throttle t) _ s p (ap ofThrottled (sym d) ∙ h) (l .law (e .whole, around (e .items), timed e)) ∙ on-tail e
+    from-throttle e = then-took (throttle t) _ s p (ap ofVersion (sym d) ∙ h) (l .law (e .whole, around (e .items), timed e)) ∙ on-tail e
 
     pub tail-no-tags : (c : Code.Refusal) → z ≡ Walked.Refused c → Runs (λ e. walk (e .whole) (tailShape t f) 0) s p (behindItems ts m) (λ e. bad (ofRefusal c))
     tail-no-tags c j = record { law = λ e. ap (λ (y : Walked). Tags.inTablesIs ts′ y (e .whole, around (e .items), timed e)) (sym j) ∙ from-throttle e }
 
-    rowed : (k : ℕ) (e : Before) → own (e .error ∷ e .count ∷ (ofThrottle x ++ (k ∷ []))) ≡ store (timed e) (k ∷ [])
+    rowed : (k : ℕ) (e : Before) → own (e .error ∷ e .count ∷ (versionedCells x ++ (k ∷ []))) ≡ store (timed e) (k ∷ [])
     unfolding store put
     rowed k e = go x
       where
-        go : (y : Throttle) → own (e .error ∷ e .count ∷ (ofThrottle y ++ (k ∷ []))) ≡ store (store (own (e .error ∷ e .count ∷ [])) (ofThrottle y)) (k ∷ [])
-        go Throttle.Absent = refl
-        go (Throttle.Present v) = refl
+        go : (y : Versioned) → own (e .error ∷ e .count ∷ (versionedCells y ++ (k ∷ []))) ≡ store (store (own (e .error ∷ e .count ∷ [])) (versionedCells y)) (k ∷ [])
+        go Versioned.Absent = refl
+        go (Versioned.Present v) = refl
 
     pub tail-took : (k u v : ℕ) → z ≡ Walked.Took k u v → Runs (λ e. walk (e .whole) (tailShape t f) 0) s p (behindItems ts m) (ofTail ts′ (Tail.Took x k u v))
     unfolding around

@@ -1,26 +1,24 @@
 -- The promises of the calls determine the replies and the tables.
 use mathlib.Core.List.{List, [], _++_, _∷_}
 use mathlib.Core.Path.{_≡_, refl}
-use Prim.Native.Nat.{ℕ, suc, zero}
+use Prim.Native.Nat.{ℕ}
 use lib.ListN.{getD}
 use Rattle.layout.specs.Tables.{Tables}
 use Rattle.layout.specs.Answers.{Answer, accepted, refused}
 use Rattle.primitives.proofs.Unique.{refusalOf, unique}
-use Rattle.api_versions.specs.Answers.{ofResponseReply, ofThrottle}
+use Rattle.versioned.proofs.Unique.{versionedOf}
+use Rattle.versioned.specs.Cells.{versionedCells}
+use Rattle.versioned.specs.declared.Versioned.{Versioned}
+use Rattle.api_versions.specs.Answers.{ofResponseReply}
 use Rattle.api_versions.specs.declared.ResponseBody.{ResponseBody}
 use Rattle.api_versions.specs.declared.ResponseReply.{ResponseReply}
-use Rattle.api_versions.specs.declared.Throttle.{Throttle}
-
-abbrev throttleOf : ℕ → ℕ → Throttle
-throttleOf zero n = Throttle.Absent
-throttleOf (suc k) n = Throttle.Present n
 
 abbrev bodyOf : List ℕ → ResponseBody
-bodyOf cs = record { error = getD cs 0 0; items = getD cs 1 0; throttle = throttleOf (getD cs 2 0) (getD cs 3 0); tags = getD cs 4 0 }
+bodyOf cs = record { error = getD cs 0 0; items = getD cs 1 0; throttle = versionedOf (getD cs 2 0) (getD cs 3 0); tags = getD cs 4 0 }
 
-body-back : (e k : ℕ) (t : Throttle) (g : ℕ) → bodyOf (e ∷ k ∷ (ofThrottle t ++ (g ∷ []))) ≡ record { error = e; items = k; throttle = t; tags = g }
-body-back e k Throttle.Absent g = refl
-body-back e k (Throttle.Present n) g = refl
+body-back : (e k : ℕ) (t : Versioned) (g : ℕ) → bodyOf (e ∷ k ∷ (versionedCells t ++ (g ∷ []))) ≡ record { error = e; items = k; throttle = t; tags = g }
+body-back e k Versioned.Absent g = refl
+body-back e k (Versioned.Present n) g = refl
 
 abbrev replyOf : Answer → ResponseReply
 replyOf (accepted cs n) = ResponseReply.Took (bodyOf cs) n

@@ -3,17 +3,13 @@ use mathlib.Core.List.{List, [], _++_, _∷_}
 use Prim.Native.Nat.{ℕ}
 use Rattle.layout.specs.Answers.{Answer, accepted, refused}
 use Rattle.primitives.specs.Answers.{ofRefusal}
+use Rattle.versioned.specs.Cells.{versionedCells}
 use Rattle.api_versions.specs.declared.ResponseBody.{ResponseBody}
 use Rattle.api_versions.specs.declared.ResponseReply.{ResponseReply}
-use Rattle.api_versions.specs.declared.Throttle.{Throttle}
 
--- the kind, 0 for absent or unset and 2 for present, and the number
-abbrev pub ofThrottle : Throttle → List ℕ
-ofThrottle Throttle.Absent = 0 ∷ 0 ∷ []
-ofThrottle (Throttle.Present n) = 2 ∷ n ∷ []
-
+-- error, number of items, throttle time (kind, number), number of tags
 abbrev pub ofResponse : ResponseBody → List ℕ
-ofResponse x = x .error ∷ x .items ∷ (ofThrottle (x .throttle) ++ (x .tags ∷ []))
+ofResponse x = x .error ∷ x .items ∷ (versionedCells (x .throttle) ++ (x .tags ∷ []))
 
 abbrev pub ofResponseReply : ResponseReply → Answer
 ofResponseReply (ResponseReply.Took x n) = accepted (ofResponse x) n

@@ -1,25 +1,15 @@
 -- What the walks over a response say in the definition's words. Table 0 is the body's own row, 1 the items, 2 the tags.
-use mathlib.Core.Bool.{Bool, _&&_, false, true}
+use mathlib.Core.Bool.{Bool, _&&_}
 use mathlib.Core.List.{List, [], _++_, _∷_}
 use Prim.Native.Nat.{ℕ}
 use lib.Dec.{ltb}
-use Rattle.layout.specs.Reading.{Reader, Res, bad, give, ok, then}
-use Rattle.layout.specs.Primitives.{cell, w32}
+use Rattle.layout.specs.Reading.{Res, bad, ok}
 use Rattle.primitives.specs.Answers.{ofRefusal}
 use Rattle.rows.specs.Store.{State, Tab, own, tab}
-use Rattle.api_versions.specs.Answers.{ofResponse, ofThrottle}
+use Rattle.versioned.specs.Cells.{versionedCells}
+use Rattle.api_versions.specs.Answers.{ofResponse}
 use Rattle.api_versions.specs.declared.response.Tail.{Tail}
-use Rattle.api_versions.specs.declared.response.Throttled.{Throttled}
 use Rattle.api_versions.specs.declared.response.Measured.{Measured}
-
--- the cells of the throttle time, where the version has one
-unfoldable pub throttle : Bool → Reader (List ℕ)
-throttle true = then (cell w32) (λ n. give (2 ∷ n ∷ []))
-throttle false = give (0 ∷ 0 ∷ [])
-
-abbrev pub ofThrottled : Throttled → Res (List ℕ)
-ofThrottled (Throttled.Took x n) = ok (ofThrottle x) n
-ofThrottled (Throttled.Refused e) = bad (ofRefusal e)
 
 -- what was read before the tail: it may be anything
 pub record Before : Type 0 where
@@ -32,7 +22,7 @@ abbrev pub behindItems : List ℕ → ℕ → Before → State
 behindItems ts t e = own (e .error ∷ e .count ∷ []) ∷ e .items ∷ tab ts t ∷ []
 
 abbrev pub ofTail : List ℕ → Tail → Before → Res State
-ofTail ts (Tail.Took x k n t) e = ok (own (e .error ∷ e .count ∷ (ofThrottle x ++ (k ∷ []))) ∷ e .items ∷ tab ts t ∷ []) n
+ofTail ts (Tail.Took x k n t) e = ok (own (e .error ∷ e .count ∷ (versionedCells x ++ (k ∷ []))) ∷ e .items ∷ tab ts t ∷ []) n
 ofTail ts (Tail.Refused c) e = bad (ofRefusal c)
 
 abbrev pub ofMeasured : List ℕ → List ℕ → Measured → Res State

@@ -11,15 +11,13 @@ ghost use Rattle.rows.specs.Store.{own, tab};
 ghost use Rattle.rows.specs.Walk.{Runs, on, walk};
 ghost use Rattle.api_versions.specs.Answers.{ofResponseReply};
 ghost use Rattle.api_versions.specs.Shapes.{bodyShape, tailShape};
-ghost use Rattle.api_versions.specs.Walks.{behindItems, finish, isLeft, ofTail, ofThrottled, ofMeasured, throttle};
+ghost use Rattle.api_versions.specs.Walks.{behindItems, finish, isLeft, ofTail, ofMeasured};
 use crate::ResponseBody;
 use crate::ResponseReply;
-use crate::Throttle;
 use api_versions_items::Rows;
 use api_versions_items::items_in;
 use api_versions_items::tags_if;
 use places::int16_at;
-use places::int32_at;
 use places::items_at;
 use primitives::BYTES_LEFT;
 use primitives::MOST;
@@ -31,17 +29,14 @@ use primitives::at;
 use primitives::no_room;
 use primitives::version_of;
 use tags::Walked;
-
-// The throttle time, and the place behind it.
-pub enum Throttled {
-    Took { throttle: Throttle, next: usize },
-    Refused(Refusal),
-}
+use versioned::Version;
+use versioned::Versioned;
+use versioned::int32_if;
 
 // What stands behind the items, the place behind it, and the mark of the tags' table.
 pub enum Tail {
     Took {
-        throttle: Throttle,
+        throttle: Versioned,
         tags: u64,
         next: usize,
         mark: usize,
@@ -62,24 +57,6 @@ pub enum Measured {
 
 // ---- around the items
 
-fn throttle_at(s: &[u8], p: usize, throttled: bool) -> Throttled
-    ensures { λ r. ⌜ ofThrottled r ≡ on (throttle throttled) (now (s .entry)) p ⌝ }
-{
-    if !throttled {
-        return Throttled::Took {
-            throttle: Throttle::Absent,
-            next: p,
-        };
-    }
-    match int32_at(s, p) {
-        Number::Took { value, used } => Throttled::Took {
-            throttle: Throttle::Present(value),
-            next: used,
-        },
-        Number::Refused(e) => Throttled::Refused(e),
-    }
-}
-
 // Throttle time and the body's own tags.
 fn tail_at(
     s: &[u8],
@@ -91,8 +68,11 @@ fn tail_at(
 ) -> Tail
     ensures { λ r. ⌜ Runs (λ e. walk (e .whole) (tailShape throttled flexible) 0) (now (s .entry)) p (behindItems (now (tags .entry)) mark) (ofTail (now (tags .exit)) r) ⌝ }
 {
-    match throttle_at(s, p, throttled) {
-        Throttled::Took { throttle, next } => match tags_if(s, next, flexible, tags, mark) {
+    match int32_if(s, p, throttled) {
+        Version::Took {
+            value: throttle,
+            next,
+        } => match tags_if(s, next, flexible, tags, mark) {
             Walked::Took {
                 count,
                 used,
@@ -105,7 +85,7 @@ fn tail_at(
             },
             Walked::Refused(e) => Tail::Refused(e),
         },
-        Throttled::Refused(e) => Tail::Refused(e),
+        Version::Refused(e) => Tail::Refused(e),
     }
 }
 

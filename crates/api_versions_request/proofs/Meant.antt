@@ -21,7 +21,9 @@ use Rattle.rows.proofs.Chunks.{rows-many}
 use Rattle.rows.proofs.Faults.{or-none, or-unless}
 use Rattle.layout.proofs.Proper.{both}
 use Rattle.rows.proofs.Judged.{all-eq}
-use Rattle.tags_written.specs.Tags.{allRanged, ranged, tagsBytes, tagsGood}
+use Rattle.ranges.specs.Asked.{allRanged, ranged}
+use Rattle.ranges.proofs.Cells.{Cells}
+use Rattle.tags_written.specs.Tags.{tagsBytes, tagsGood}
 use Rattle.tags_written.proofs.Meaning.{meaning, tag, tag-good, tags-clean, tags-end, tags-value}
 use Rattle.put.specs.declared.Form.{Form}
 use Rattle.put.specs.Put.{behindLength, sizeOf}
@@ -29,7 +31,6 @@ use Rattle.api_versions_request.specs.Answers.{ofText}
 use Rattle.api_versions_request.specs.declared.Text.{Text}
 use Rattle.api_versions_request.specs.Parts.{requestBytes, requestFault, requestGood, requestHolds, requestShape, textGood, textOf, textsBytes}
 use Rattle.primitives.specs.Answers.{versionOf}
-use Rattle.tags_written.proofs.Meaning.{Cells}
 use Rattle.primitives.proofs.Versions.{known}
 
 is-shape : (v : ℕ) → v ≤ 3 → shape request v ≡ requestShape (leb 3 v)
@@ -57,8 +58,8 @@ module _ (size own : ℕ) (tags : List ℕ) where
   same-tested : (a b : Bool) → tested a b ≡ (a && (b && tagsGood size own tags))
   unfolding tagsGood allRanged
   same-tested a b =
-      (λ i. (a && (b && (goodCount true own && true))) && ((all-eq (λ (r : List ℕ). goodSpan size false (drop 1 r) && true) (ranged size) (tag-good size) (rowsOf 3 tags) i && true) && (eqb (adds i) (rows-many 3 tags i) && true)))
-      ∙ fewer a b (goodCount true own) (all (ranged size) (rowsOf 3 tags)) (eqb (count own) (length tags / 3))
+      (λ i. (a && (b && (goodCount true own && true))) && ((all-eq (λ (r : List ℕ). goodSpan size false (drop 1 r) && true) (ranged 1 size) (tag-good size) (rowsOf 3 tags) i && true) && (eqb (adds i) (rows-many 3 tags i) && true)))
+      ∙ fewer a b (goodCount true own) (all (ranged 1 size) (rowsOf 3 tags)) (eqb (count own) (length tags / 3))
 
   is-good : (name version : Text) → good size 1 (requestShape false) ((ofText name ++ (ofText version ++ (own ∷ []))) ∷ tags ∷ []) ≡ requestGood size name version own tags
   unfolding good requestGood addsUp all from sum rowsAt kindOf kindIn arrays asked goodRow goodCells goodSpan rowWidth width
@@ -91,7 +92,7 @@ module _ (lent : List ℕ) (l : length lent < 2 ^ 64 - 1) (name version : Text) 
   module _ (g : requestGood (length lent) name version own tags ≡ true) where
     own-rows : count own ≡ length tags / 3
     unfolding requestGood tagsGood
-    own-rows = of-eq (count own) (length tags / 3) (both (allRanged (length lent) tags) _ (both (goodCount true own) _ (both (textGood (length lent) version) _ (both (textGood (length lent) name) _ g .1) .1) .1) .1)
+    own-rows = of-eq (count own) (length tags / 3) (both (allRanged 3 1 (length lent) tags) _ (both (goodCount true own) _ (both (textGood (length lent) version) _ (both (textGood (length lent) name) _ g .1) .1) .1) .1)
 
     is-body : (f : Bool) → body lent lentRows (requestShape f) ≡ requestBytes f lent (textOf lent name) (textOf lent version) tags
     unfolding body write writeBasic sizedBytes requestBytes textsBytes behindLength

@@ -19,8 +19,8 @@ use primitives::at;
 use primitives::no_room;
 use primitives::version_of;
 use put::Form;
-use tags_written::is_inside;
-use tags_written::part;
+use ranges::is_inside;
+use ranges::part;
 use tags_written::tag_buffer;
 use writers::Written;
 

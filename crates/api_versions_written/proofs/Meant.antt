@@ -1,69 +1,52 @@
 -- What the definition comes to for responses: the value of row and tables, its bytes, and its first fault.
-use mathlib.Core.Bool.{Bool, _&&_, cond, false, true}
+use mathlib.Core.Bool.{Bool, _&&_, false, true}
 use mathlib.Core.List.{List, [], _++_, _∷_, map}
-use mathlib.Core.Path.{_∙_, _≡_, ap, ap₂, refl, sym}
-use Prim.Native.Nat.{_*_, _+_, _/_, _<_, _^_, _≤_, suc, zero, ℕ}
+use mathlib.Core.Path.{_∙_, _≡_, ap, ap₂, refl}
+use Prim.Native.Nat.{_*_, _+_, _/_, _<_, _^_, suc, zero, ℕ}
 use native.Mathlib.Omega.{arith}
-use lib.Dec.{eqb, lit<, ltb}
+use lib.Dec.{lit<, ltb}
 use lib.ListN.{drop, getD, length, take}
-use lib.Seq.{drop-drop, getD-drop, getD-take}
-use Rattle.layout.specs.Primitives.{bytes, holds, lengthBytes, limit, minus, sizedBytes, w16, w32}
+use lib.Seq.{getD-take}
+use Rattle.layout.specs.Primitives.{bytes, holds, lengthBytes, limit, sizedBytes, w16, w32}
 use Rattle.layout.specs.Rows.{Shape, Value, array, field, number}
 use Rattle.layout.specs.Tables.{Tables, all, basicOf, chosen, chunks, count, itemsOf, pop, sum, times, valueOf, width}
 use Rattle.layout.specs.Write.{basicFault, each, fault, firstOf, or, sizedFault, unless, write, writeBasic}
 use Rattle.rows.proofs.Faults.{or-none, or-unless}
+use Rattle.rows.proofs.Taking.{own-apart, taken-state}
 use Rattle.rows.proofs.Times.{times-many}
-use Rattle.tags_written.proofs.Meaning.{Cells, cells-drop, meaning, tags-clean, tags-end}
+use Rattle.ranges.specs.Asked.{told}
+use Rattle.ranges.proofs.Cells.{Cells, cells-drop}
+use Rattle.ranges.proofs.Counts.{count-most}
+use Rattle.tags_written.proofs.Meaning.{meaning, tags-clean, tags-end}
 use Rattle.put.specs.Put.{sizeOf}
 use Rattle.layout.specs.Rows as Rows
 use Rattle.api_versions_items.specs.Shapes.{tagsShape}
 use Rattle.api_versions.specs.Shapes.{itemShape, throttleShape}
-use Rattle.api_versions_written.specs.Responses.{endBytes, formOf, rowHolds, tagCells, tagsPart, throttleBytes, throttleHolds, told}
-use Rattle.api_versions_written.proofs.Items.{item-value, itemMeant, taken}
-
-count-most : (c : ℕ) → count c ≤ c
-unfolding count
-count-most c = go (eqb c minus)
-  where
-    go : (b : Bool) → cond b 0 c ≤ c
-    go true = omega arith
-    go false = omega arith
+use Rattle.api_versions_written.specs.Responses.{endBytes, formOf, rowHolds, tagCells, tagsPart, throttleBytes, throttleHolds}
+use Rattle.api_versions_written.proofs.Items.{item-value, itemCells, itemMeant, oneItem, taken}
 
 -- the cells of tags that the rows of items take
 abbrev pub cellsOf : Bool → List (List ℕ) → ℕ
 cellsOf f rs = sum (λ r. tagCells f (getD r 3 0)) rs
 
-pub cells-told : (rs : List (List ℕ)) → cellsOf true rs ≡ sum told rs * 3
+pub cells-told : (rs : List (List ℕ)) → cellsOf true rs ≡ sum (told 3) rs * 3
 unfolding sum tagCells told
 cells-told [] = refl
 cells-told (r ∷ rs) = let e = cells-told rs in omega (arith, e)
 
 module _ (lent : List ℕ) (f : Bool) where
-  abbrev one : Tables → Value (List ℕ) (itemShape f) × Tables
-  one = valueOf lent (itemShape f) 1
-
   -- ---- the items
 
+  cells-first : (items : List ℕ) → itemCells lent f (take 4 items) ≡ itemCells lent f items
+  cells-first items = ap (tagCells f) (getD-take 4 items 3 0 (lit< tt))
+
   -- whatever stands in the body's own row
-  own-apart : (n : ℕ) (a b items tags : List ℕ) → times n one (a ∷ items ∷ tags ∷ []) .0 ≡ times n one (b ∷ items ∷ tags ∷ []) .0
-  unfolding times
-  own-apart zero a b items tags = refl
-  own-apart (suc n) a b items tags =
-      rw (item-value lent f a items tags, item-value lent f b items tags)
-      (ap (λ (xs : List (Value (List ℕ) (itemShape f))). itemMeant lent f items tags ∷ xs) (own-apart n a b (drop 4 items) (drop (tagCells f (getD items 3 0)) tags)))
+  items-apart : (n : ℕ) (a b items tags : List ℕ) → times n (oneItem lent f) (a ∷ items ∷ tags ∷ []) .0 ≡ times n (oneItem lent f) (b ∷ items ∷ tags ∷ []) .0
+  items-apart = own-apart 4 (itemCells lent f) (oneItem lent f) (itemMeant lent f) (item-value lent f)
 
   -- the tables behind n items
-  times-state : (n : ℕ) (a items tags : List ℕ) → times n one (a ∷ items ∷ tags ∷ []) .1 ≡ a ∷ drop (n * 4) items ∷ drop (cellsOf f (chunks n 4 items)) tags ∷ []
-  unfolding times chunks sum
-  times-state zero a items tags = refl
-  times-state (suc n) a items tags =
-      ap (λ (x : Value (List ℕ) (itemShape f) × Tables). times n one (x .1) .1) (item-value lent f a items tags)
-      ∙ times-state n a (drop 4 items) (drop (tagCells f (getD items 3 0)) tags)
-      ∙ ap₂ (λ (x y : List ℕ). a ∷ x ∷ y ∷ []) (drop-drop (n * 4) 4 items ∙ ap (λ (k : ℕ). drop k items) next)
-      (drop-drop (cellsOf f (chunks n 4 (drop 4 items))) (tagCells f (getD items 3 0)) tags ∙ ap (λ (c : ℕ). drop (tagCells f c + cellsOf f (chunks n 4 (drop 4 items))) tags) (sym (getD-take 4 items 3 0 (lit< tt))))
-    where
-      next : 4 + n * 4 ≡ suc n * 4
-      next = omega arith
+  items-state : (n : ℕ) (a items tags : List ℕ) → times n (oneItem lent f) (a ∷ items ∷ tags ∷ []) .1 ≡ a ∷ drop (n * 4) items ∷ drop (cellsOf f (chunks n 4 items)) tags ∷ []
+  items-state = taken-state 4 (itemCells lent f) (oneItem lent f) (itemMeant lent f) (item-value lent f) cells-first
 
 module _ (lent : List ℕ) (l : length lent < 2 ^ 64) where
   item-fault : (f : Bool) (items tags : List ℕ) → Cells items → Cells tags → fault (itemShape f) (itemMeant lent f items tags) ≡ unless (rowHolds (take 4 items)) 11
@@ -131,11 +114,11 @@ module _ (lent : List ℕ) (l : length lent < 2 ^ 64) where
     pub front-bytes : (f : Bool) → write (field (number w16) (array (Rows.items f) 1 (itemShape f) r)) (valueOf lent (field (number w16) (array (Rows.items f) 1 (itemShape f) r)) 0 ((error ∷ c ∷ own) ∷ items ∷ tags ∷ []) .0)
         ≡ bytes 2 error ++ ((lengthBytes (sizeOf (formOf f)) (count c) ++ each (write (itemShape f)) (times (count c) (valueOf lent (itemShape f) 1) ([] ∷ items ∷ tags ∷ []) .0)) ++ write r (valueOf lent r 0 (behindItems f) .0))
     unfolding write writeBasic valueOf pop width basicOf itemsOf sizedBytes lengthBytes
-    front-bytes true = rw (times-state lent true (count c) own items tags, own-apart lent true (count c) own [] items tags, times-many (valueOf lent (itemShape true) 1) (count c) ([] ∷ items ∷ tags ∷ []))
-    front-bytes false = rw (times-state lent false (count c) own items tags, own-apart lent false (count c) own [] items tags, times-many (valueOf lent (itemShape false) 1) (count c) ([] ∷ items ∷ tags ∷ []))
+    front-bytes true = rw (items-state lent true (count c) own items tags, items-apart lent true (count c) own [] items tags, times-many (valueOf lent (itemShape true) 1) (count c) ([] ∷ items ∷ tags ∷ []))
+    front-bytes false = rw (items-state lent false (count c) own items tags, items-apart lent false (count c) own [] items tags, times-many (valueOf lent (itemShape false) 1) (count c) ([] ∷ items ∷ tags ∷ []))
 
     pub front-fault : (f : Bool) → Cells items → Cells tags → fault (field (number w16) (array (Rows.items f) 1 (itemShape f) r)) (valueOf lent (field (number w16) (array (Rows.items f) 1 (itemShape f) r)) 0 ((error ∷ c ∷ own) ∷ items ∷ tags ∷ []) .0)
         ≡ or (unless (holds w16 error) 11) (or (or (unless (ltb (count c) (limit (Rows.items f))) 11) (unless (all rowHolds (chunks (count c) 4 items)) 11)) (fault r (valueOf lent r 0 (behindItems f) .0)))
     unfolding fault basicFault valueOf pop width basicOf itemsOf sizedFault
-    front-fault true h g = rw (times-state lent true (count c) own items tags, times-many (valueOf lent (itemShape true) 1) (count c) (own ∷ items ∷ tags ∷ []), items-fault true (count c) own items tags h g)
-    front-fault false h g = rw (times-state lent false (count c) own items tags, times-many (valueOf lent (itemShape false) 1) (count c) (own ∷ items ∷ tags ∷ []), items-fault false (count c) own items tags h g)
+    front-fault true h g = rw (items-state lent true (count c) own items tags, times-many (valueOf lent (itemShape true) 1) (count c) (own ∷ items ∷ tags ∷ []), items-fault true (count c) own items tags h g)
+    front-fault false h g = rw (items-state lent false (count c) own items tags, times-many (valueOf lent (itemShape false) 1) (count c) (own ∷ items ∷ tags ∷ []), items-fault false (count c) own items tags h g)

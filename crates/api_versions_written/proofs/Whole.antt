@@ -20,16 +20,17 @@ use Rattle.layout.proofs.Tests.{le-true}
 use Rattle.rows.proofs.Chunks.{rows-many}
 use Rattle.rows.proofs.Faults.{or-unless}
 use Rattle.rows.proofs.Judged.{all-eq}
-use Rattle.tags_written.specs.Tags.{allRanged, ranged}
-use Rattle.tags_written.proofs.Meaning.{Cells, cells-drop, tag-good}
+use Rattle.ranges.specs.Asked.{allRanged, ranged, told, toldGood}
+use Rattle.ranges.proofs.Cells.{Cells, cells-drop}
+use Rattle.tags_written.proofs.Meaning.{tag-good}
 use Rattle.put.specs.Put.{sizeOf}
-use Rattle.api_versions.specs.Answers.{ofThrottle}
-use Rattle.api_versions.specs.declared.Throttle.{Throttle}
+use Rattle.versioned.specs.Cells.{given, versionedCells}
+use Rattle.versioned.specs.declared.Versioned.{Versioned}
 use Rattle.layout.specs.Rows as Rows
 use Rattle.api_versions.proofs.Replies.{shape-is}
 use Rattle.api_versions_items.specs.Shapes.{tagsShape}
 use Rattle.api_versions.specs.Shapes.{itemShape, responseShape, throttleShape}
-use Rattle.api_versions_written.specs.Responses.{arrayBytes, endBytes, formOf, itemsBytes, ownFrom, responseBytes, responseFault, responseGood, responseHolds, restBytes, rowHolds, tagsPart, throttleHolds, throttleOf, told, toldGood}
+use Rattle.api_versions_written.specs.Responses.{arrayBytes, endBytes, formOf, itemsBytes, ownFrom, responseBytes, responseFault, responseGood, responseHolds, restBytes, rowHolds, tagsPart, throttleHolds}
 use Rattle.primitives.specs.Answers.{versionOf}
 use Rattle.primitives.proofs.Versions.{known}
 use Rattle.api_versions_written.proofs.Good.{good-items, good-tags}
@@ -38,11 +39,11 @@ use Rattle.api_versions_written.proofs.Meant.{cells-told, cellsOf, end-
 -- ---- 13, at every version
 
 module _ (size error c k m own : ℕ) (items tags : List ℕ) where
-  item-good : (r : List ℕ) → (goodCount true (getD (drop 1 (drop 1 (drop 1 r))) 0 0) && true) ≡ toldGood r
+  item-good : (r : List ℕ) → (goodCount true (getD (drop 1 (drop 1 (drop 1 r))) 0 0) && true) ≡ toldGood true 3 r
   unfolding toldGood
   item-good r = and-true _ ∙ ap (goodCount true) (getD-drop 1 (drop 1 (drop 1 r)) 0 0 ∙ getD-drop 1 (drop 1 r) 1 0 ∙ getD-drop 1 r 2 0)
 
-  item-told : (r : List ℕ) → count (getD (drop 1 (drop 1 (drop 1 r))) 0 0) + 0 ≡ told r
+  item-told : (r : List ℕ) → count (getD (drop 1 (drop 1 (drop 1 r))) 0 0) + 0 ≡ told 3 r
   unfolding told
   item-told r = add-zero _ ∙ ap count (getD-drop 1 (drop 1 (drop 1 r)) 0 0 ∙ getD-drop 1 (drop 1 r) 1 0 ∙ getD-drop 1 r 2 0)
 
@@ -56,17 +57,17 @@ module _ (size error c k m own : ℕ) (items tags : List ℕ) where
   items-add : count c + 0 + (sum (λ (r : List ℕ). 0) (rowsOf 4 items) + (sum (λ (r : List ℕ). 0) (rowsOf 3 tags) + 0)) ≡ count c
   items-add = omega (arith, sum-zero (λ (r : List ℕ). 0) (λ r. refl) (rowsOf 4 items), sum-zero (λ (r : List ℕ). 0) (λ r. refl) (rowsOf 3 tags))
 
-  tags-add : 0 + (count own + 0) + (sum (λ (r : List ℕ). count (getD (drop 1 (drop 1 (drop 1 r))) 0 0) + 0) (rowsOf 4 items) + (sum (λ (r : List ℕ). 0) (rowsOf 3 tags) + 0)) ≡ count own + sum told (rowsOf 4 items)
-  tags-add = omega (arith, sum-eq (λ (r : List ℕ). count (getD (drop 1 (drop 1 (drop 1 r))) 0 0) + 0) told item-told (rowsOf 4 items), sum-zero (λ (r : List ℕ). 0) (λ r. refl) (rowsOf 3 tags))
+  tags-add : 0 + (count own + 0) + (sum (λ (r : List ℕ). count (getD (drop 1 (drop 1 (drop 1 r))) 0 0) + 0) (rowsOf 4 items) + (sum (λ (r : List ℕ). 0) (rowsOf 3 tags) + 0)) ≡ count own + sum (told 3) (rowsOf 4 items)
+  tags-add = omega (arith, sum-eq (λ (r : List ℕ). count (getD (drop 1 (drop 1 (drop 1 r))) 0 0) + 0) (told 3) item-told (rowsOf 4 items), sum-zero (λ (r : List ℕ). 0) (λ r. refl) (rowsOf 3 tags))
 
   is-good : good size 2 (responseShape false false) ((error ∷ c ∷ k ∷ m ∷ own ∷ []) ∷ items ∷ tags ∷ []) ≡ responseGood size c own items tags
   unfolding good responseGood allRanged addsUp all from sum rowsAt kindOf kindIn arrays asked goodRow goodCells rowWidth width
   is-good =
       (λ i.
       (goodCount false c && (always (eqb k 0) i && (goodCount true own && true)))
-      && ((all-eq (λ (r : List ℕ). goodCount true (getD (drop 1 (drop 1 (drop 1 r))) 0 0) && true) toldGood item-good (rowsOf 4 items) i && (all-eq (λ (r : List ℕ). goodSpan size false (drop 1 r) && true) (ranged size) (tag-good size) (rowsOf 3 tags) i && true))
+      && ((all-eq (λ (r : List ℕ). goodCount true (getD (drop 1 (drop 1 (drop 1 r))) 0 0) && true) (toldGood true 3) item-good (rowsOf 4 items) i && (all-eq (λ (r : List ℕ). goodSpan size false (drop 1 r) && true) (ranged 1 size) (tag-good size) (rowsOf 3 tags) i && true))
       && (eqb (items-add i) (rows-many 4 items i) && (eqb (tags-add i) (rows-many 3 tags i) && true))))
-      ∙ fewer (goodCount false c) (goodCount true own) (all toldGood (rowsOf 4 items)) (all (ranged size) (rowsOf 3 tags)) (eqb (count c) (length items / 4)) (eqb (count own + sum told (rowsOf 4 items)) (length tags / 3))
+      ∙ fewer (goodCount false c) (goodCount true own) (all (toldGood true 3) (rowsOf 4 items)) (all (ranged 1 size) (rowsOf 3 tags)) (eqb (count c) (length items / 4)) (eqb (count own + sum (told 3) (rowsOf 4 items)) (length tags / 3))
 
 module _ (lent : List ℕ) (l : length lent < 2 ^ 64) (error c k m own : ℕ) (items tags : List ℕ) where
   -- the row and tables, and the throttle time
@@ -140,11 +141,11 @@ module _ (lent : List ℕ) (error c own : ℕ) (items tags out : List ℕ) (l : 
   abbrev at-version : ℕ → Answer × List ℕ
   at-version n = writeAlone (responseFault (leb 1 v) (leb 3 v) (length lent) error c n own items tags) (responseBytes (leb 1 v) (leb 3 v) lent error n own items tags) out
 
-  by-row : (q : Throttle) → at-version (throttleOf q) ≡ writeAnswer response (pos v) lent ((error ∷ c ∷ (ofThrottle q ++ (own ∷ []))) ∷ items ∷ tags ∷ []) out
+  by-row : (q : Versioned) → at-version (given 0 q) ≡ writeAnswer response (pos v) lent ((error ∷ c ∷ (versionedCells q ++ (own ∷ []))) ∷ items ∷ tags ∷ []) out
   unfolding chosen
-  by-row Throttle.Absent = sym (answer lent l error c 0 0 own items tags v k h i o out)
-  by-row (Throttle.Present n) = sym (answer lent l error c 2 n own items tags v k h i o out)
+  by-row Versioned.Absent = sym (answer lent l error c 0 0 own items tags v k h i o out)
+  by-row (Versioned.Present n) = sym (answer lent l error c 2 n own items tags v k h i o out)
 
-  pub response-written : (q : Throttle) (z : ℤ) → v ≡ versionOf z → {n : ℕ} → n ≡ throttleOf q → (r : Answer × List ℕ) → r ≡ at-version n → r ≡ writeAnswer response z lent ((error ∷ c ∷ (ofThrottle q ++ (own ∷ []))) ∷ items ∷ tags ∷ []) out
+  pub response-written : (q : Versioned) (z : ℤ) → v ≡ versionOf z → {n : ℕ} → n ≡ given 0 q → (r : Answer × List ℕ) → r ≡ at-version n → r ≡ writeAnswer response z lent ((error ∷ c ∷ (versionedCells q ++ (own ∷ []))) ∷ items ∷ tags ∷ []) out
   response-written q z e j r w =
-      w ∙ ap at-version j ∙ by-row q ∙ ap (λ (y : ℤ). writeAnswer response y lent ((error ∷ c ∷ (ofThrottle q ++ (own ∷ []))) ∷ items ∷ tags ∷ []) out) (known response z v e k (omega arith))
+      w ∙ ap at-version j ∙ by-row q ∙ ap (λ (y : ℤ). writeAnswer response y lent ((error ∷ c ∷ (versionedCells q ++ (own ∷ []))) ∷ items ∷ tags ∷ []) out) (known response z v e k (omega arith))

@@ -6,12 +6,12 @@ use Prim.Native.Nat.{_*_, _+_, _-_, _/_, ℕ}
 use lib.Dec.{eqb, ltb}
 use lib.ListN.{drop, getD, length, take}
 use Rattle.api_versions.specs.Shapes.{itemShape}
-use Rattle.api_versions.specs.declared.Throttle.{Throttle}
 use Rattle.layout.specs.Primitives.{bytes, holds, lengthBytes, limit, w16, w32}
 use Rattle.layout.specs.Rows as Rows
 use Rattle.layout.specs.Tables.{all, count, goodCount, rowsOf, sum, times, valueOf}
 use Rattle.layout.specs.Write.{each, unless, write}
-use Rattle.tags_written.specs.Tags.{allRanged, tagsBytes}
+use Rattle.ranges.specs.Asked.{allRanged, told, toldGood}
+use Rattle.tags_written.specs.Tags.{tagsBytes}
 use Rattle.put.specs.declared.Form.{Form}
 use Rattle.put.specs.Put.{sizeOf}
 
@@ -62,29 +62,13 @@ restBytes t f lent n own items tags = arrayBytes f lent items tags ++ endBytes t
 unfoldable pub responseBytes : Bool → Bool → List ℕ → ℕ → ℕ → ℕ → List ℕ → List ℕ → List ℕ
 responseBytes t f lent error n own items tags = bytes 2 error ++ restBytes t f lent n own items tags
 
--- an unset throttle time is written as 0
-abbrev pub throttleOf : Throttle → ℕ
-throttleOf Throttle.Absent = 0
-throttleOf (Throttle.Present n) = n
-
 -- ---- 13
-
--- the tags that an item's row tells
-unfoldable pub told : List ℕ → ℕ
-told r = count (getD r 3 0)
-
-unfoldable pub toldGood : List ℕ → Bool
-toldGood r = goodCount true (getD r 3 0)
-
--- the rows tell n tags in all
-unfoldable pub tells : ℕ → List (List ℕ) → Bool
-tells n rs = all toldGood rs && eqb (sum told rs) n
 
 -- c is the number of items, own that of the body's own tags
 unfoldable pub responseGood : ℕ → ℕ → ℕ → List ℕ → List ℕ → Bool
 responseGood size c own items tags =
     (goodCount false c && goodCount true own)
-    && ((all toldGood (rowsOf 4 items) && allRanged size tags) && (eqb (count c) (length items / 4) && eqb (count own + sum told (rowsOf 4 items)) (length tags / 3)))
+    && ((all (toldGood true 3) (rowsOf 4 items) && allRanged 3 1 size tags) && (eqb (count c) (length items / 4) && eqb (count own + sum (told 3) (rowsOf 4 items)) (length tags / 3)))
 
 -- ---- 11
 

@@ -2,37 +2,19 @@
 ghost use mathlib.Core.Path.{_≡_};
 ghost use mathlib.Core.List.{[], _∷_};
 ghost use lib.Dec.{ltb};
-ghost use Prim.Native.Nat.{_<_, _^_};
 ghost use Rattle.layout.specs.Primitives.{limit};
 ghost use Rattle.layout.specs.Rows as Rows;
 ghost use Rattle.layout.specs.Tables.{all, rowsOf};
-ghost use Rattle.api_versions_written.specs.Responses.{responseFault, responseGood, responseHolds, rowHolds, tells, throttleHolds};
+ghost use Rattle.api_versions_written.specs.Responses.{responseFault, responseGood, responseHolds, rowHolds, throttleHolds};
 use primitives::BAD_TABLES;
 use primitives::TOO_WIDE;
-use tags_written::all_ranged;
-use tags_written::rows_told;
+use ranges::Row;
+use ranges::all_ranged;
+use ranges::do_items_tell;
+use ranges::rows_told;
 use writers::write::fits;
 
 // ---- 13
-
-// Do the items' rows tell n tags in all?
-fn do_tell(items: &[u64], n: u64) -> bool
-    requires { ⌜ n < 2 ^ 63 ⌝ }
-    ensures { λ r. ⌜ r ≡ tells n (rowsOf 4 (now (items .entry))) ⌝ }
-{
-    let rows = items.len() / 4;
-    let mut left = n;
-    let mut i: usize = 0;
-    while i < rows {
-        let k = rows_told(items[i * 4 + 3]);
-        if left < k {
-            return false;
-        }
-        left = left - k;
-        i = i + 1;
-    }
-    left == 0
-}
 
 fn is_good(size: usize, count: u64, own: u64, items: &[u64], tags: &[u64]) -> bool
     ensures { λ r. ⌜ r ≡ responseGood size count own (now (items .entry)) (now (tags .entry)) ⌝ }
@@ -45,10 +27,10 @@ fn is_good(size: usize, count: u64, own: u64, items: &[u64], tags: &[u64]) -> bo
     if rows < k {
         return false;
     }
-    if !do_tell(items, rows - k) {
+    if !do_items_tell(items, rows - k) {
         return false;
     }
-    all_ranged(size, tags)
+    all_ranged(size, tags, Row::Tag)
 }
 
 // ---- 11

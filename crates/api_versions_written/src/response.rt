@@ -10,11 +10,11 @@ ghost use Rattle.layout.specs.Primitives.{bytes};
 ghost use Rattle.layout.specs.Tables.{all, count, rowsOf, sum};
 ghost use Rattle.rows.specs.Step.{Capped};
 ghost use Rattle.writers.specs.Answers.{replied};
+ghost use Rattle.ranges.specs.Asked.{told};
 ghost use Rattle.api_versions.specs.Answers.{ofResponse};
-ghost use Rattle.api_versions_written.specs.Responses.{arrayBytes, endBytes, formOf, itemBytes, itemsBytes, keyBytes, responseBytes, responseFault, restBytes, tagCells, tagsPart, throttleBytes, throttleOf, told};
+ghost use Rattle.api_versions_written.specs.Responses.{arrayBytes, endBytes, formOf, itemBytes, itemsBytes, keyBytes, responseBytes, responseFault, restBytes, tagCells, tagsPart, throttleBytes};
 use crate::judge::refusal;
 use api_versions::ResponseBody;
-use api_versions::Throttle;
 use primitives::MOST;
 use primitives::NO_VERSION;
 use primitives::TOO_LONG;
@@ -22,8 +22,9 @@ use primitives::at;
 use primitives::no_room;
 use primitives::version_of;
 use put::Form;
-use tags_written::rows_told;
+use ranges::rows_told;
 use tags_written::tag_buffer;
+use versioned::cells::given;
 use writers::Written;
 
 // ---- the walk
@@ -81,7 +82,7 @@ fn item(out: &mut [u8], flexible: bool, lent: &[u8], items: &[u64], tags: &[u64]
 
 // Item behind item.
 fn all_items(out: &mut [u8], flexible: bool, lent: &[u8], items: &[u64], tags: &[u64]) -> usize
-    requires { ⌜ sum told (rowsOf 4 (now items)) * 3 ≤ length (now tags) ⌝ }
+    requires { ⌜ sum (told 3) (rowsOf 4 (now items)) * 3 ≤ length (now tags) ⌝ }
     ensures { λ r. ⌜ Capped (itemsBytes flexible (now (lent .entry)) (now (items .entry)) (now (tags .entry))) (now (out .entry)) r (now (out .exit)) ⌝ }
 {
     let mut done: usize = 0;
@@ -109,7 +110,7 @@ fn form_of(flexible: bool) -> Form
 
 // The items behind their number.
 fn array(out: &mut [u8], flexible: bool, lent: &[u8], items: &[u64], tags: &[u64]) -> usize
-    requires { ⌜ sum told (rowsOf 4 (now items)) * 3 ≤ length (now tags) ⌝ }
+    requires { ⌜ sum (told 3) (rowsOf 4 (now items)) * 3 ≤ length (now tags) ⌝ }
     ensures { λ r. ⌜ Capped (arrayBytes flexible (now (lent .entry)) (now (items .entry)) (now (tags .entry))) (now (out .entry)) r (now (out .exit)) ⌝ }
 {
     let a = put::length(out, form_of(flexible), (items.len() / 4) as u64);
@@ -148,7 +149,7 @@ fn rest(
     items: &[u64],
     tags: &[u64],
 ) -> usize
-    requires { ⌜ count own + sum told (rowsOf 4 (now items)) ≡ length (now tags) / 3 ⌝ }
+    requires { ⌜ count own + sum (told 3) (rowsOf 4 (now items)) ≡ length (now tags) / 3 ⌝ }
     ensures { λ r. ⌜ Capped (restBytes throttle flexible (now (lent .entry)) n own (now (items .entry)) (now (tags .entry))) (now (out .entry)) r (now (out .exit)) ⌝ }
 {
     let from = (tags.len() / 3 - rows_told(own) as usize) * 3;
@@ -169,7 +170,7 @@ fn body(
     items: &[u64],
     tags: &[u64],
 ) -> usize
-    requires { ⌜ count own + sum told (rowsOf 4 (now items)) ≡ length (now tags) / 3 ⌝ }
+    requires { ⌜ count own + sum (told 3) (rowsOf 4 (now items)) ≡ length (now tags) / 3 ⌝ }
     ensures { λ r. ⌜ Capped (responseBytes throttle flexible (now (lent .entry)) error n own (now (items .entry)) (now (tags .entry))) (now (out .entry)) r (now (out .exit)) ⌝ }
 {
     let a = put::lowest(out, error, 2);
@@ -230,16 +231,6 @@ fn written(
     Written::Wrote(all)
 }
 
-// An unset throttle time is written as 0.
-fn time(throttle: Throttle) -> u64
-    ensures { λ r. ⌜ r ≡ throttleOf throttle ⌝ }
-{
-    match throttle {
-        Throttle::Absent => 0,
-        Throttle::Present(n) => n,
-    }
-}
-
 // `items` are rows of key, lowest and highest version and number of tags; `tags` rows of tag, and start and length of its data in `lent`.
 pub fn write(
     out: &mut [u8],
@@ -256,7 +247,8 @@ pub fn write(
         return Written::Refused(at(NO_VERSION, 0));
     }
     let throttle = body.throttle;
-    let n = time(throttle);
+    // unset, it is written as 0
+    let n = given(throttle, 0);
     written(
         out,
         1 <= v,

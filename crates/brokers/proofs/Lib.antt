@@ -1,4 +1,2 @@
--- a row read in two parts, and a broker so read
+-- a broker, read and stored
 pub mod Rows
--- one turn of the loop over brokers
-pub mod Turns

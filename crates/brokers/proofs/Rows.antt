@@ -1,53 +1,26 @@
--- A row read as its cells in two parts, the second from where the first ended; a broker so read, and stored.
+-- A broker read as its cells, the address first, and stored.
 use mathlib.Core.Bool.{Bool, false, true}
 use mathlib.Core.List.{List, [], _++_, _∷_}
-use mathlib.Core.Path.{_∙_, _≡_, ap, refl, sym}
+use mathlib.Core.Path.{_∙_, _≡_, ap, sym}
 use Prim.Native.Nat.{ℕ}
-use lib.ListN.{drop}
-use Rattle.layout.specs.Reading.{Reader, Refusal, Res, bad, more, ok, then}
+use Rattle.layout.specs.Reading.{Refusal, Res, bad, ok}
 use Rattle.layout.specs.Primitives.{cell, fixed, kept, never, w16, w32}
 use Rattle.layout.specs.Read.{byPlace, readBasic}
-use Rattle.layout.specs.Rows.{Basic, Shape, absent, array, end, field, lacking, number, stands, text}
-use Rattle.layout.specs.Tables.{Span, absentCells, absentCount, cells, readRows, span}
-use Rattle.layout.proofs.Maps.{then-assoc}
+use Rattle.layout.specs.Rows.{Basic, Shape, end, field, number, stands, text}
+use Rattle.layout.specs.Tables.{cells, span}
 use Rattle.fields.specs.declared.Field.{Field}
 use Rattle.primitives.specs.Answers.{ofRefusal}
 use Rattle.primitives.specs.declared.Refusal as Code
-use Rattle.rows.specs.Store.{State, Tab, add, store, tab}
+use Rattle.rows.specs.Store.{Tab, add, store, tab}
 use Rattle.rows.specs.Walk.{Runs, on, rowFrom, walk}
 use Rattle.rows.proofs.Flat.{Flat}
-use Rattle.rows.proofs.Front.{onto, then-give}
-use Rattle.rows.proofs.RowCells.{alone-no, alone-took, cells-end, cells-if-no, cells-if-took, cells-no, cells-took}
-use Rattle.rows.proofs.Steps.{then-no, then-took}
+use Rattle.rows.proofs.RowCells.{alone-no, alone-took, cells-end, cells-if-no, cells-if-took, cells-no, cells-took, first-no, first-took}
 use Rattle.rows.proofs.Stores.{store-append}
 use Rattle.versioned.specs.Cells.{fieldCells}
 use Rattle.brokers.specs.Brokers.{addressShape, atBrokers, brokerShape, filledIs, ofBroker, ofBrokerRow}
 use Rattle.brokers.specs.declared.Broker.{Broker}
 use Rattle.brokers.specs.declared.BrokerRow.{BrokerRow}
-use Rattle.brokers.specs.declared.Filled.{Filled}
-
--- ---- any row in two parts
-
-parted : (l : Shape) → Flat l → (r : Shape) (ds : List ℕ) (p : ℕ) (s : List ℕ) → rowFrom ds (onto l r) p s ≡ then (rowFrom ds l) (λ es. rowFrom es r) p s
-unfolding rowFrom readRows
-parted end h r ds p s = sym (then-give ds (λ es. rowFrom es r) p s)
-parted (field k l) h r ds p s =
-    (λ i. then (readBasic (byPlace false) k) (λ x q t. parted l h r (ds ++ cells k x) q t i) p s)
-    ∙ then-assoc (readBasic (byPlace false) k) (λ x. rowFrom (ds ++ cells k x) l) (λ es. rowFrom es r) p s
-parted (absent k l) h r ds p s = parted l h r (ds ++ absentCells k) p s
-parted (array z t i l) h r ds p s = absurd h
-parted (lacking z t i l) h r ds p s = parted l h r (ds ++ (absentCount z ∷ [])) p s
-
-module _ (l : Shape) (h : Flat l) (r : Shape) (ds s : List ℕ) (p : ℕ) where
-  on-parts : on (then (rowFrom ds l) (λ es. rowFrom es r)) s p ≡ on (rowFrom ds (onto l r)) s p
-  unfolding on
-  on-parts = ap (more p) (sym (parted l h r ds p (drop p s)))
-
-  pub first-no : (c : Refusal) → bad c ≡ on (rowFrom ds l) s p → bad c ≡ on (rowFrom ds (onto l r)) s p
-  first-no c e = then-no (rowFrom ds l) (λ es. rowFrom es r) s p e ∙ on-parts
-
-  pub first-took : (cs : List ℕ) (q : ℕ) → ok cs q ≡ on (rowFrom ds l) s p → (z : Res (List ℕ)) → z ≡ on (rowFrom cs r) s q → z ≡ on (rowFrom ds (onto l r)) s p
-  first-took cs q e z d = then-took (rowFrom ds l) (λ es. rowFrom es r) s p e d ∙ on-parts
+use Rattle.walks.specs.declared.Filled.{Filled}
 
 -- ---- the address
 

@@ -12,7 +12,7 @@ use Rattle.versioned.specs.Cells.{fieldCells}
 use Rattle.brokers.specs.declared.Address.{Address}
 use Rattle.brokers.specs.declared.Broker.{Broker}
 use Rattle.brokers.specs.declared.BrokerRow.{BrokerRow}
-use Rattle.brokers.specs.declared.Filled.{Filled}
+use Rattle.walks.specs.declared.Filled.{Filled}
 
 unfoldable pub brokerShape : Bool → Shape
 brokerShape f = field (number w32) (field (text (fixed w16 never)) (field (number w32) (stands f (text (fixed w16 kept)) end)))

@@ -17,6 +17,7 @@ use primitives::Refusal;
 use rows::store3;
 use rows::store4;
 use versioned::nullable_string_if;
+use walks::Filled;
 
 // The rack is absent in version 0, and may be null from 1 on.
 pub struct Broker {
@@ -30,12 +31,6 @@ pub struct Broker {
 // A broker, and the place behind it.
 pub enum BrokerRow {
     Took { row: Broker, next: usize },
-    Refused(Refusal),
-}
-
-// The place behind some brokers, and the table's mark.
-pub enum Filled {
-    Took { next: usize, mark: usize },
     Refused(Refusal),
 }
 

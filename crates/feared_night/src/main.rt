@@ -6,11 +6,11 @@ ghost use Prim.Native.Nat.{_≤_};
 ghost use Rattle.api_versions.specs.Answers.{accepting};
 use api_versions::ResponseBody;
 use api_versions::ResponseReply;
-use api_versions::Throttle;
 use api_versions::response;
 use libc::STDOUT_FILENO;
 use primitives::Refusal;
-use tags_written::part;
+use ranges::part;
+use versioned::Versioned;
 use writers::Written;
 
 fn say(s: &[u8]) {
@@ -45,10 +45,10 @@ fn hex(s: &[u8]) {
     say(b"\n");
 }
 
-fn throttle(t: Throttle) {
+fn throttle(t: Versioned) {
     match t {
-        Throttle::Absent => say(b"absent"),
-        Throttle::Present(n) => cell(n),
+        Versioned::Absent => say(b"absent"),
+        Versioned::Present(n) => cell(n),
     }
 }
 
@@ -211,7 +211,7 @@ fn written(version: i16, name: &[u8]) {
     let fields = ResponseBody {
         error: 0,
         items: 3,
-        throttle: Throttle::Present(100),
+        throttle: Versioned::Present(100),
         tags: 1,
     };
     let r = api_versions_written::response::write(

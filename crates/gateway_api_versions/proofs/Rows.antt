@@ -1,25 +1,36 @@
--- Own rows: as they are lent, and of a request as its two texts show them.
+-- Own rows: as they are lent, of a response as its throttle time shows it, and of a request as its two texts do.
 use mathlib.Core.List.{[], _++_, _∷_}
-use mathlib.Core.Path.{_∙_, _≡_, refl}
+use mathlib.Core.Path.{_∙_, _≡_, ap₂, refl}
 use Prim.Native.Nat.{ℕ, suc, zero}
 use lib.ListN.{getD}
 use Rattle.layout.specs.Answers.{accepted}
 use Rattle.api_versions_request.specs.Answers.{ofText}
 use Rattle.api_versions_request.specs.declared.Text.{Text}
-use Rattle.gateway_api_versions.specs.Replies.{requestNumbers, textRow, throttleRow}
+use Rattle.gateway_api_versions.specs.Replies.{requestNumbers, responseNumbers, textRow}
 use Rattle.gateway_api_versions.specs.declared.RequestNumbers.{RequestNumbers}
+use Rattle.gateway_api_versions.specs.declared.ResponseNumbers.{ResponseNumbers}
+use Rattle.versioned.specs.Cells.{given, versionedCells}
+use Rattle.versioned.specs.declared.Versioned.{Versioned}
 
 -- ---- rows that are lent: any kind but 0 is present
-
-pub present-row : (k n : ℕ) → (k ≡ 0 → ⊥) → 2 ∷ n ∷ [] ≡ throttleRow k n
-unfolding throttleRow
-present-row zero n h = absurd (h refl)
-present-row (suc k) n h = refl
 
 pub present-text : (k a n : ℕ) → (k ≡ 0 → ⊥) → 2 ∷ a ∷ n ∷ [] ≡ textRow k a n
 unfolding textRow
 present-text zero a n h = absurd (h refl)
 present-text (suc k) a n h = refl
+
+-- ---- a response that was read: the cells of its throttle time among the others
+
+module _ (e i g n : ℕ) where
+  abbrev shownTime : ℕ → ℕ → ResponseNumbers
+  shownTime k x = record { number = 0; place = 0; need = 0; used = n; error = e; items = i; kind = k; throttle = x; tags = g }
+
+  by-time : (t : Versioned) → shownTime (getD (versionedCells t) 0 0) (given 0 t) ≡ responseNumbers (accepted (e ∷ i ∷ (versionedCells t ++ (g ∷ []))) n)
+  by-time Versioned.Absent = refl
+  by-time (Versioned.Present x) = refl
+
+  pub time-told : (t : Versioned) (k x : ℕ) → k ≡ getD (versionedCells t) 0 0 → x ≡ given 0 t → shownTime k x ≡ responseNumbers (accepted (e ∷ i ∷ (versionedCells t ++ (g ∷ []))) n)
+  time-told t k x a b = ap₂ shownTime a b ∙ by-time t
 
 -- ---- a request that was read: the cells of its two texts, one behind the other
 

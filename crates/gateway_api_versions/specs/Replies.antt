@@ -4,6 +4,7 @@ use mathlib.Core.List.{List, [], _∷_, _++_}
 use Prim.Native.Nat.{ℕ, zero, suc}
 use lib.ListN.{getD}
 use Rattle.layout.specs.Answers.{Answer, accepted, refused}
+use Rattle.versioned.specs.Cells.{versionedRow}
 use Rattle.gateway_api_versions.specs.declared.ResponseNumbers.{ResponseNumbers}
 use Rattle.gateway_api_versions.specs.declared.RequestNumbers.{RequestNumbers}
 
@@ -21,12 +22,8 @@ requestNumbers (refused e) =
 
 -- ---- rows that a caller lends: of what may be unset the kind 0 is unset, and any other present
 
-unfoldable pub throttleRow : ℕ → ℕ → List ℕ
-throttleRow zero n = 0 ∷ 0 ∷ []
-throttleRow (suc k) n = 2 ∷ n ∷ []
-
 unfoldable pub responseRow : List ℕ → List ℕ
-responseRow cs = getD cs 0 0 ∷ getD cs 1 0 ∷ (throttleRow (getD cs 2 0) (getD cs 3 0) ++ (getD cs 4 0 ∷ []))
+responseRow cs = getD cs 0 0 ∷ getD cs 1 0 ∷ (versionedRow (getD cs 2 0) (getD cs 3 0) ++ (getD cs 4 0 ∷ []))
 
 unfoldable pub textRow : ℕ → ℕ → ℕ → List ℕ
 textRow zero start n = 0 ∷ 0 ∷ 0 ∷ []

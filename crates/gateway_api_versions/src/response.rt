@@ -3,23 +3,25 @@ ghost use mathlib.Core.Path.{_≡_};
 ghost use mathlib.Core.List.{[], _∷_};
 ghost use Rattle.layout.specs.Answers.{accepted, readAnswer, writeAnswer};
 ghost use Rattle.layout.specs.Messages.ApiVersions as Api;
-ghost use Rattle.api_versions.specs.Answers.{ofResponse, ofResponseReply, ofThrottle};
+ghost use Rattle.api_versions.specs.Answers.{ofResponse, ofResponseReply};
 ghost use Rattle.kinds.specs.Kinds.{isSet};
 ghost use Rattle.gateway.specs.Replies.{numbers, told};
-ghost use Rattle.gateway_api_versions.specs.Replies.{responseNumbers, responseRow, throttleRow};
+ghost use Rattle.gateway_api_versions.specs.Replies.{responseNumbers, responseRow};
 use crate::ResponseNumbers;
 use api_versions::ResponseBody;
 use api_versions::ResponseReply;
-use api_versions::Throttle;
 use api_versions::response;
 use api_versions_written::response as writing;
 use gateway::Numbers;
 use gateway::written;
+use versioned::cells::given;
+use versioned::cells::kind;
+use versioned::cells::of_row;
 
-// A body that was read, whose throttle time is of that kind.
-fn with_throttle(body: ResponseBody, used: usize, kind: u64, throttle: u64) -> ResponseNumbers
-    ensures { λ r. ⌜ r ≡ responseNumbers (accepted (body .error ∷ body .items ∷ kind ∷ throttle ∷ body .tags ∷ []) used) ⌝ }
+fn accepted(body: ResponseBody, used: usize) -> ResponseNumbers
+    ensures { λ r. ⌜ r ≡ responseNumbers (accepted (ofResponse body) used) ⌝ }
 {
+    let throttle = body.throttle;
     ResponseNumbers {
         number: 0,
         place: 0,
@@ -27,19 +29,9 @@ fn with_throttle(body: ResponseBody, used: usize, kind: u64, throttle: u64) -> R
         used: used as u64,
         error: body.error,
         items: body.items,
-        kind,
-        throttle,
+        kind: kind(throttle),
+        throttle: given(throttle, 0),
         tags: body.tags,
-    }
-}
-
-fn accepted(body: ResponseBody, used: usize) -> ResponseNumbers
-    ensures { λ r. ⌜ r ≡ responseNumbers (accepted (ofResponse body) used) ⌝ }
-{
-    let throttle = body.throttle;
-    match throttle {
-        Throttle::Absent => with_throttle(body, used, 0, 0),
-        Throttle::Present(n) => with_throttle(body, used, 2, n),
     }
 }
 
@@ -82,23 +74,13 @@ pub extern "C" fn befrolan_read_api_versions_response(
 
 // ---- written
 
-// Kind 0 is unset, any other present.
-fn throttle_of(kind: u64, n: u64) -> Throttle
-    ensures { λ r. ⌜ ofThrottle r ≡ throttleRow kind n ⌝ }
-{
-    if kind == 0 {
-        return Throttle::Absent;
-    }
-    Throttle::Present(n)
-}
-
 fn body_of(row: &[u64; 5]) -> ResponseBody
     ensures { λ r. ⌜ ofResponse r ≡ responseRow (now (row .entry)) ⌝ }
 {
     ResponseBody {
         error: row[0],
         items: row[1],
-        throttle: throttle_of(row[2], row[3]),
+        throttle: of_row(row[2], row[3]),
         tags: row[4],
     }
 }

@@ -10,7 +10,7 @@ use mir.Val.{SFits, ofZ, toZ}
 use Rattle.layout.specs.Answers.{accepted}
 use Rattle.layout.specs.Lookup.{Host, lookup}
 use Rattle.fields.specs.declared.Field.{Field}
-use Rattle.versioned.specs.Cells.{fieldCells, versionedCells}
+use Rattle.versioned.specs.Cells.{fieldCells, given, versionedCells}
 use Rattle.versioned.specs.declared.Versioned.{Versioned}
 use Rattle.gateway_metadata.specs.Replies.{creationRow, hostNumbers, metadataNumbers}
 use Rattle.gateway_metadata.specs.declared.HostNumbers.{HostNumbers}
@@ -48,7 +48,7 @@ module _ (t : Versioned) (f : Field) (o : Versioned) (b k n : ℕ) where
   shown a c d e g h i = record { number = 0; place = 0; need = 0; used = n; timed = a; throttle = c; brokers = b; clustered = d; cstart = e; clength = g; controlled = h; controller = i; topics = k }
 
   by-fields : (t : Versioned) (f : Field) (o : Versioned) →
-      shown (getD (versionedCells t) 0 0) (getD (versionedCells t) 1 0) (getD (fieldCells f) 0 0) (getD (fieldCells f) 1 0) (getD (fieldCells f) 2 0) (getD (versionedCells o) 0 0) (getD (versionedCells o) 1 0)
+      shown (getD (versionedCells t) 0 0) (given 0 t) (getD (fieldCells f) 0 0) (getD (fieldCells f) 1 0) (getD (fieldCells f) 2 0) (getD (versionedCells o) 0 0) (given 0 o)
       ≡ metadataNumbers (accepted (versionedCells t ++ (b ∷ (fieldCells f ++ (versionedCells o ++ (k ∷ []))))) n)
   by-fields Versioned.Absent Field.Absent Versioned.Absent = refl
   by-fields Versioned.Absent Field.Absent (Versioned.Present y) = refl
@@ -64,7 +64,7 @@ module _ (t : Versioned) (f : Field) (o : Versioned) (b k n : ℕ) where
   by-fields (Versioned.Present x) (Field.Present p q) (Versioned.Present y) = refl
 
   pub fields-told :
-      (a c d e g h i : ℕ) → a ≡ getD (versionedCells t) 0 0 → c ≡ getD (versionedCells t) 1 0 → d ≡ getD (fieldCells f) 0 0 → e ≡ getD (fieldCells f) 1 0 → g ≡ getD (fieldCells f) 2 0 → h ≡ getD (versionedCells o) 0 0 → i ≡ getD (versionedCells o) 1 0
+      (a c d e g h i : ℕ) → a ≡ getD (versionedCells t) 0 0 → c ≡ given 0 t → d ≡ getD (fieldCells f) 0 0 → e ≡ getD (fieldCells f) 1 0 → g ≡ getD (fieldCells f) 2 0 → h ≡ getD (versionedCells o) 0 0 → i ≡ given 0 o
       → shown a c d e g h i ≡ metadataNumbers (accepted (versionedCells t ++ (b ∷ (fieldCells f ++ (versionedCells o ++ (k ∷ []))))) n)
   fields-told a c d e g h i l m p q r s u = (λ x. shown (l x) (m x) (p x) (q x) (r x) (s x) (u x)) ∙ by-fields t f o
 

@@ -4,7 +4,7 @@ ghost use mathlib.Core.List.{[], _∷_};
 ghost use lib.ListN.{getD};
 ghost use Rattle.layout.specs.Answers.{accepted, prefixRead};
 ghost use Rattle.layout.specs.Messages.Metadata as Meta;
-ghost use Rattle.versioned.specs.Cells.{fieldCells, versionedCells};
+ghost use Rattle.versioned.specs.Cells.{fieldCells};
 ghost use Rattle.metadata.specs.Answers.{ofResponse, ofResponseReply};
 ghost use Rattle.gateway.specs.Replies.{told};
 ghost use Rattle.gateway_metadata.specs.Replies.{metadataNumbers};
@@ -12,26 +12,7 @@ use crate::MetadataNumbers;
 use fields::Field;
 use metadata::ResponseBody;
 use metadata::ResponseReply;
-use versioned::Versioned;
-
-// 0 where it is absent, 2 where it is there.
-fn there(x: Versioned) -> u64
-    ensures { λ r. ⌜ r ≡ getD (versionedCells x) 0 0 ⌝ }
-{
-    match x {
-        Versioned::Absent => 0,
-        Versioned::Present(_) => 2,
-    }
-}
-
-fn number(x: Versioned) -> u64
-    ensures { λ r. ⌜ r ≡ getD (versionedCells x) 1 0 ⌝ }
-{
-    match x {
-        Versioned::Absent => 0,
-        Versioned::Present(n) => n,
-    }
-}
+use versioned::cells;
 
 // 0 where it is absent, 1 where it is null, 2 where it is there.
 fn kind(f: Field) -> u64
@@ -75,14 +56,14 @@ fn accepted(body: ResponseBody, used: usize) -> MetadataNumbers
         place: 0,
         need: 0,
         used: used as u64,
-        timed: there(throttle),
-        throttle: number(throttle),
+        timed: cells::kind(throttle),
+        throttle: cells::given(throttle, 0),
         brokers: body.brokers,
         clustered: kind(cluster),
         cstart: start(cluster),
         clength: length(cluster),
-        controlled: there(controller),
-        controller: number(controller),
+        controlled: cells::kind(controller),
+        controller: cells::given(controller, 0),
         topics: body.topics,
     }
 }

@@ -25,11 +25,13 @@ use Rattle.layout.proofs.Proper.{metadata-response, owed, width-same, widthAt}
 use Rattle.rows.specs.Walk.{itemCount, on, rowFrom}
 use Rattle.rows.proofs.Flat.{Flat}
 use Rattle.rows.proofs.RowCells.{cells-absent, cells-end, cells-took, no-row-of, row-of}
-use Rattle.rows.proofs.Steps.{give-took, then-took}
+use Rattle.rows.proofs.Steps.{Both, both, give-took, same-end, same-value, then-took}
+use Rattle.places.specs.Moved.{arrayItems}
+use Rattle.versioned.specs.Fronts.{frontOf}
+use Rattle.versioned.proofs.Fronts.{count-took}
 use Rattle.brokers.specs.Brokers.{brokerShape}
 use Rattle.brokers.proofs.Rows.{broker-flat}
 use Rattle.lookup.specs.Hosts.{Seeks, brokersOf}
-use Rattle.lookup.proofs.Search.{Both, both, same-end, same-value}
 
 -- ---- where values are read, their cells are
 
@@ -76,16 +78,17 @@ module _ (racked throttled : Bool) (s : List ℕ) where
     abbrev brokers : Shape
     brokers = array (fixed w32 empty) 1 (brokerShape racked) tail
 
-    abbrev behind : Reader (List (List ℕ))
-    behind = then (itemCount false (fixed w32 empty)) (λ n. many n (rowFrom [] (brokerShape racked)))
-
     rows-are : (x : Value Span brokers) → map (rowCells (brokerShape racked)) (x .0) ≡ rowsIn 1 brokers x
     unfolding rowsIn
     rows-are x = sym ((λ i. one-each (rowCells (brokerShape racked)) (x .0) i ++ free-rows 1 tail (x .1) free i) ∙ append-nil (map (rowCells (brokerShape racked)) (x .0)))
 
-    record From (p : ℕ) (x : Value Span brokers) : Type 0 where
+    -- the rows that are read behind their number
+    record From (p : ℕ) (rs : List (List ℕ)) : Type 0 where
+      n : ℕ
+      m : ℕ
       u : ℕ
-      is : ok (rowsIn 1 brokers x) u ≡ on behind s p
+      count : ok n m ≡ on (itemCount false (fixed w32 empty)) s p
+      is : ok rs u ≡ on (many n (rowFrom [] (brokerShape racked))) s m
 
     abbrev count : Reader ℕ
     count = checked (admits false (fixed w32 empty)) (refusal (fixed w32 empty)) (lengthOf unsigned (fixed w32 empty))
@@ -94,32 +97,40 @@ module _ (racked throttled : Bool) (s : List ℕ) where
     values = counted (byPlace false) (fixed w32 empty) (λ n. many n (read (byPlace false) (brokerShape racked)))
 
     -- the cells of values that are read behind their number
-    counted-rows : (p u : ℕ) (ys : List (Value Span (brokerShape racked))) → ok ys u ≡ on values s p → ok (map (rowCells (brokerShape racked)) ys) u ≡ on behind s p
+    counted-rows : (p u : ℕ) (ys : List (Value Span (brokerShape racked))) → ok ys u ≡ on values s p → From p (map (rowCells (brokerShape racked)) ys)
     unfolding sized itemCount
     counted-rows p u ys e = go (both count (λ n. many (n - 1) (read (byPlace false) (brokerShape racked))) s p ys u e)
       where
-        go : Both count (λ n. many (n - 1) (read (byPlace false) (brokerShape racked))) s p ys u → ok (map (rowCells (brokerShape racked)) ys) u ≡ on behind s p
-        go c =
-            then-took (itemCount false (fixed w32 empty)) (λ n. many n (rowFrom [] (brokerShape racked))) s p
-            (then-took count (λ n. give (n - 1)) s p (c .first) (give-took (c .x - 1) s (c .u)))
-            (rows-for (brokerShape racked) (broker-flat racked) s (c .x - 1) (c .u) u ys (c .second))
+        go : Both count (λ n. many (n - 1) (read (byPlace false) (brokerShape racked))) s p ys u → From p (map (rowCells (brokerShape racked)) ys)
+        go c = record {
+          n = c .x - 1;
+          m = c .u;
+          u = u;
+          count = then-took count (λ n. give (n - 1)) s p (c .first) (give-took (c .x - 1) s (c .u));
+          is = rows-for (brokerShape racked) (broker-flat racked) s (c .x - 1) (c .u) u ys (c .second);
+        }
 
-    from : (p n : ℕ) (x : Value Span brokers) → ok x n ≡ on (read (byPlace false) brokers) s p → From p x
+    from : (p n : ℕ) (x : Value Span brokers) → ok x n ≡ on (read (byPlace false) brokers) s p → From p (rowsIn 1 brokers x)
     unfolding read pair
     from p n x e = go (both values (λ ys. then (read (byPlace false) tail) (λ y. give (ys, y))) s p x n e)
       where
-        made : (ys : List (Value Span (brokerShape racked))) (u : ℕ) → ok ys u ≡ on values s p → Both (read (byPlace false) tail) (λ y. give (ys, y)) s u x n → From p x
+        made : (ys : List (Value Span (brokerShape racked))) (u : ℕ) → ok ys u ≡ on values s p → Both (read (byPlace false) tail) (λ y. give (ys, y)) s u x n → From p (rowsIn 1 brokers x)
         made ys u d b =
             let g = b .second ∙ sym (give-took (ys, b .x) s (b .u)) in
             let k : x .0 ≡ ys = ap (λ y. y .0) (same-value g) in
-            record { u = u; is = ap (λ (rs : List (List ℕ)). ok rs u) (sym (rows-are x) ∙ ap (map (rowCells (brokerShape racked))) k) ∙ counted-rows p u ys d }
+            subst (From p) (sym (ap (map (rowCells (brokerShape racked))) k) ∙ rows-are x) (counted-rows p u ys d)
 
-        go : Both values (λ ys. then (read (byPlace false) tail) (λ y. give (ys, y))) s p x n → From p x
+        go : Both values (λ ys. then (read (byPlace false) tail) (λ y. give (ys, y))) s p x n → From p (rowsIn 1 brokers x)
         go a = made (a .x) (a .u) (a .first) (both (read (byPlace false) tail) (λ y. give (a .x, y)) s (a .u) x n (a .second))
+
+    -- behind the front, which holds the number
+    behind-front : (l : Shape) (x : Value Span l) (cs : List ℕ) (p : ℕ) → ok cs p ≡ on (rowFrom [] (stands throttled time end)) s 0 → From p (rowsIn 1 l x) → Brought l x
+    unfolding brokersOf arrayItems
+    behind-front l x cs p e w = record { q = w .u; is = then-took (frontOf throttled) (λ y. many (y .1) (rowFrom [] (brokerShape racked))) s 0 (count-took throttled s cs p e (w .n) (w .m) (w .count)) (w .is) }
 
     -- with a throttle time and without
     there : (n : ℕ) (x : Value Span (field time brokers)) → throttled ≡ true → ok x n ≡ on (read (byPlace false) (field time brokers)) s 0 → Brought (field time brokers) x
-    unfolding read pair rowsIn brokersOf stands
+    unfolding read pair rowsIn stands
     there n x t e =
         let a = both (readBasic (byPlace false) time) (λ y. then (read (byPlace false) brokers) (λ z. give (y, z))) s 0 x n e in
         let b = both (read (byPlace false) brokers) (λ z. give (a .x, z)) s (a .u) x n (a .second) in
@@ -127,23 +138,16 @@ module _ (racked throttled : Bool) (s : List ℕ) where
         let k : b .x ≡ x .1 = sym (ap (λ y. y .1) (same-value g)) in
         made (a .x) (a .u) (a .first) (from (a .u) (b .u) (x .1) (ap (λ y. ok y (b .u)) (sym k) ∙ b .first))
       where
-        made : (y : BasicValue Span time) (u : ℕ) → ok y u ≡ on (readBasic (byPlace false) time) s 0 → From u (x .1) → Brought (field time brokers) x
-        made y u d w = record {
-          q = w .u;
-          is = then-took (rowFrom [] (stands throttled time end)) (λ cs. behind) s 0
-              (subst (λ (b : Bool). ok (cells time y) u ≡ on (rowFrom [] (stands b time end)) s 0) (sym t) (cells-took [] time end s 0 y u d _ (cells-end (cells time y) s u))) (w .is);
-        }
+        made : (y : BasicValue Span time) (u : ℕ) → ok y u ≡ on (readBasic (byPlace false) time) s 0 → From u (rowsIn 1 brokers (x .1)) → Brought (field time brokers) x
+        made y u d w =
+            behind-front (field time brokers) x (cells time y) u
+            (subst (λ (b : Bool). ok (cells time y) u ≡ on (rowFrom [] (stands b time end)) s 0) (sym t) (cells-took [] time end s 0 y u d _ (cells-end (cells time y) s u))) w
 
     lacking : (n : ℕ) (x : Value Span (absent time brokers)) → throttled ≡ false → ok x n ≡ on (read (byPlace false) (absent time brokers)) s 0 → Brought (absent time brokers) x
-    unfolding read rowsIn brokersOf stands
-    lacking n x t e = made (from 0 n x e)
-      where
-        made : From 0 x → Brought (absent time brokers) x
-        made w = record {
-          q = w .u;
-          is = then-took (rowFrom [] (stands throttled time end)) (λ cs. behind) s 0
-              (subst (λ (b : Bool). ok (absentCells time) 0 ≡ on (rowFrom [] (stands b time end)) s 0) (sym t) (cells-absent [] time end s 0 _ (cells-end (absentCells time) s 0))) (w .is);
-        }
+    unfolding read rowsIn stands
+    lacking n x t e =
+        behind-front (absent time brokers) x (absentCells time) 0
+        (subst (λ (b : Bool). ok (absentCells time) 0 ≡ on (rowFrom [] (stands b time end)) s 0) (sym t) (cells-absent [] time end s 0 _ (cells-end (absentCells time) s 0))) (from 0 n x e)
 
     pub brought : (l : Shape) → l ≡ stands throttled time brokers → (x : Value Span l) (n : ℕ) → ok x n ≡ on (read (byPlace false) l) s 0 → Brought l x
     unfolding stands

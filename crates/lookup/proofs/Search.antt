@@ -1,5 +1,5 @@
 -- Each way out of the search for a host, one reader behind the other and broker by broker.
-use mathlib.Core.Bool.{Bool, cond, false}
+use mathlib.Core.Bool.{Bool, cond}
 use mathlib.Core.List.{List, [], _∷_}
 use mathlib.Core.Logic.{_≢_}
 use mathlib.Core.Option.{some}
@@ -8,40 +8,15 @@ use Prim.Native.Nat.{_-_, _<_, _≤_, suc, zero, ℕ}
 use native.Mathlib.Omega.{arith}
 use lib.ListN.{getD}
 use borrow.Author.Tests.{eq-eqb, ne-eqb}
-use Rattle.layout.specs.Reading.{Reader, Refusal, Res, bad, give, many, ok, then}
-use Rattle.layout.specs.Primitives.{w32}
-use Rattle.layout.specs.Rows.{end, number, optional, stands}
+use Rattle.layout.specs.Reading.{Reader, Refusal, bad, give, many, ok, then}
 use Rattle.layout.specs.Tables.{firstRow}
 use Rattle.layout.specs.Lookup.{Host, found, hostOf, unknown}
 use Rattle.layout.proofs.Local.{not-ok}
 use Rattle.rows.specs.Walk.{on, rowFrom}
-use Rattle.rows.proofs.Steps.{give-took, then-no, then-took}
-use Rattle.places.specs.Moved.{arrayItems}
+use Rattle.rows.proofs.Steps.{Both, both, give-took, same-end, same-value, then-no, then-took}
+use Rattle.versioned.specs.Fronts.{frontOf}
 use Rattle.brokers.specs.Brokers.{brokerShape}
 use Rattle.lookup.specs.Hosts.{Seeks, brokersOf}
-
--- ---- what a chain of two readers gave, each gave
-
-module _ {A B : Type 0} (r : Reader A) (f : A → Reader B) (s : List ℕ) (p : ℕ) where
-  pub record Both (z : B) (q : ℕ) : Type 0 where
-    pub x : A
-    pub u : ℕ
-    pub first : ok x u ≡ on r s p
-    pub second : ok z q ≡ on (f x) s u
-
-  pub both : (z : B) (q : ℕ) → ok z q ≡ on (then r f) s p → Both z q
-  both z q e = go (on r s p) refl
-    where
-      go : (o : Res A) → on r s p ≡ o → Both z q
-      go (ok x u) d = record { x = x; u = u; first = sym d; second = e ∙ sym (then-took r f s p {x = x} {q = u} (sym d) refl) }
-      go (bad c) d = not-ok (then-no r f s p {c = c} (sym d) ∙ sym e)
-
--- a value and its end are told apart
-pub same-value : {A : Type 0} {x y : A} {n m : ℕ} → _≡_ {A = Res A} (ok x n) (ok y m) → x ≡ y
-same-value e = cc
-
-pub same-end : {A : Type 0} {x y : A} {n m : ℕ} → _≡_ {A = Res A} (ok x n) (ok y m) → n ≡ m
-same-end e = cc
 
 -- ---- a search behind something else
 
@@ -131,18 +106,13 @@ module _ (r : Reader (List ℕ)) (s : List ℕ) (node : ℕ) where
           pub left-past : getD cs 0 0 ≢ node → Left (n - 1) u
           left-past g = record { law = λ h v. w .law h (row-past n p l cs u e g h v) }
 
--- ---- behind what stands in front of the brokers of a body
+-- ---- behind the front of a body
 
 module _ (racked throttled : Bool) (s : List ℕ) (node : ℕ) (h : Host) where
-  pub throttle-no : (c : Refusal) → bad c ≡ on (rowFrom [] (stands throttled (optional (0 ∷ []) (number w32)) end)) s 0 → Seeks (brokersOf racked throttled) s 0 node h
+  pub front-no : (c : Refusal) → bad c ≡ on (frontOf throttled) s 0 → Seeks (brokersOf racked throttled) s 0 node h
   unfolding brokersOf
-  throttle-no c e = seeks-no _ _ s 0 node h c e
+  front-no c e = seeks-no (frontOf throttled) _ s 0 node h c e
 
-  module _ (cs : List ℕ) (p : ℕ) (d : ok cs p ≡ on (rowFrom [] (stands throttled (optional (0 ∷ []) (number w32)) end)) s 0) where
-    pub count-no : (c : Refusal) → bad c ≡ on (arrayItems false false) s p → Seeks (brokersOf racked throttled) s 0 node h
-    unfolding brokersOf arrayItems
-    count-no c e = seeks-behind _ _ s 0 node h cs p d (seeks-no _ _ s p node h c e)
-
-    pub among : (n q : ℕ) → ok n q ≡ on (arrayItems false false) s p → Seeks (many n (rowFrom [] (brokerShape racked))) s q node h → Seeks (brokersOf racked throttled) s 0 node h
-    unfolding brokersOf arrayItems
-    among n q e w = seeks-behind _ _ s 0 node h cs p d (seeks-behind _ _ s p node h n q e w)
+  pub among : (cs : List ℕ) (n q : ℕ) → ok (cs, n) q ≡ on (frontOf throttled) s 0 → Seeks (many n (rowFrom [] (brokerShape racked))) s q node h → Seeks (brokersOf racked throttled) s 0 node h
+  unfolding brokersOf
+  among cs n q e w = seeks-behind (frontOf throttled) _ s 0 node h (cs, n) q e w

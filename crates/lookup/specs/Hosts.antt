@@ -1,17 +1,16 @@
 -- What the search for a host says in the definition's words.
-use mathlib.Core.Bool.{Bool, false}
-use mathlib.Core.List.{List, [], _∷_}
+use mathlib.Core.Bool.{Bool}
+use mathlib.Core.List.{List, []}
 use mathlib.Core.Path.{_≡_}
 use Prim.Native.Nat.{ℕ}
 use Rattle.layout.specs.Reading.{Reader, many, ok, then}
-use Rattle.layout.specs.Primitives.{empty, fixed, w32}
-use Rattle.layout.specs.Rows.{end, number, optional, stands}
 use Rattle.layout.specs.Tables.{firstRow}
 use Rattle.layout.specs.Lookup as Lookup
 use Rattle.layout.specs.Lookup.{hostOf}
 use Rattle.primitives.specs.Answers.{ofRefusal}
-use Rattle.rows.specs.Walk.{itemCount, on, rowFrom}
+use Rattle.rows.specs.Walk.{on, rowFrom}
 use Rattle.brokers.specs.Brokers.{brokerShape}
+use Rattle.versioned.specs.Fronts.{frontOf}
 use Rattle.lookup.specs.declared.Host.{Host}
 
 abbrev pub ofHost : Host → Lookup.Host
@@ -25,6 +24,4 @@ pub record Seeks (r : Reader (List (List ℕ))) (s : List ℕ) (p node : ℕ) (h
 
 -- the rows of the brokers of a body, from its start on
 unfoldable pub brokersOf : Bool → Bool → Reader (List (List ℕ))
-brokersOf racked throttled =
-    then (rowFrom [] (stands throttled (optional (0 ∷ []) (number w32)) end)) (λ cs.
-    then (itemCount false (fixed w32 empty)) (λ n. many n (rowFrom [] (brokerShape racked))))
+brokersOf racked throttled = then (frontOf throttled) (λ x. many (x .1) (rowFrom [] (brokerShape racked)))

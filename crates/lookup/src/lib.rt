@@ -10,12 +10,10 @@ use brokers::BrokerRow;
 use brokers::broker_row;
 use metadata::body::Walked;
 use metadata::response::measure;
-use places::items_at;
-use primitives::Number;
 use primitives::Refusal;
 use primitives::version_of;
-use versioned::Version;
-use versioned::int32_if;
+use versioned::Front;
+use versioned::front_of;
 
 // The part of the message that is the host, no broker with that node, or why the message is refused.
 pub enum Host {
@@ -54,18 +52,13 @@ fn seek(s: &[u8], p: usize, racked: bool, count: u64, node: u64) -> Host
 fn host_in(s: &[u8], racked: bool, throttled: bool, node: u64) -> Host
     ensures { λ r. ⌜ Seeks (brokersOf racked throttled) (now (s .entry)) 0 node (ofHost r) ⌝ }
 {
-    match int32_if(s, 0, throttled) {
-        Version::Took {
-            value: throttle,
-            next: p,
-        } => match items_at(s, p, false, false) {
-            Number::Took {
-                value: count,
-                used: q,
-            } => seek(s, q, racked, count, node),
-            Number::Refused(e) => Host::Refused(e),
-        },
-        Version::Refused(e) => Host::Refused(e),
+    match front_of(s, throttled) {
+        Front::Took {
+            throttle,
+            count,
+            next,
+        } => seek(s, next, racked, count, node),
+        Front::Refused(e) => Host::Refused(e),
     }
 }
 

@@ -12,16 +12,21 @@ use Rattle.primitives.specs.declared.Refusal as Code
 use Rattle.fields.specs.declared.Field.{Field}
 use Rattle.fields.specs.declared.Nullable.{Nullable}
 use Rattle.places.specs.Moved.{arrayItems}
-use Rattle.rows.specs.Store.{State, Tab, add, own, store, tab}
+use Rattle.rows.specs.Store.{State, Tab, add, own, tab}
 use Rattle.rows.specs.Walk.{Runs, on, rowFrom, walk}
 use Rattle.rows.proofs.Arrays.{items-no, items-no-count, items-took, row-end}
 use Rattle.rows.proofs.Close.{store-own}
+use Rattle.rows.proofs.Flat.{Flat}
+use Rattle.rows.proofs.Front.{onto, stands-flat, stands-onto}
 use Rattle.rows.proofs.RowCells.{cells-end, cells-if-no, cells-if-took, row-no, row-took}
 use Rattle.versioned.specs.Cells.{fieldCells, ofText, ofVersion, versionedCells}
+use Rattle.versioned.specs.Fronts.{frontOf, ofFront}
+use Rattle.versioned.specs.declared.Front.{Front}
 use Rattle.versioned.specs.declared.Version.{Version}
 use Rattle.versioned.specs.declared.Versioned.{Versioned}
+use Rattle.versioned.proofs.Fronts.{body-no-front, body-no-items, body-took-items}
 use Rattle.brokers.specs.Brokers.{atBrokers, brokerShape, filledIs}
-use Rattle.brokers.specs.declared.Filled.{Filled}
+use Rattle.walks.specs.declared.Filled.{Filled}
 use Rattle.topics.specs.Shapes.{topicShape}
 use Rattle.topics.specs.Walks.{inTopics, noMarks, topicsIs}
 use Rattle.topics.specs.declared.Marked.{Marked}
@@ -31,7 +36,6 @@ use Rattle.metadata.specs.Walks.{behindBrokers, finish, ofMiddle, ofTail
 use Rattle.metadata.specs.declared.body.Middle.{Middle}
 use Rattle.metadata.specs.declared.body.Tail.{Tail}
 use Rattle.metadata.specs.declared.body.Walked.{Walked}
-use Rattle.metadata.proofs.Fronts.{one-flat, one-front, two-flat, two-front}
 
 abbrev cluster : Basic
 cluster = text (fixed w16 kept)
@@ -40,6 +44,14 @@ abbrev number32 : Basic
 number32 = optional (0 ∷ []) (number w32)
 
 -- ---- cluster and controller
+
+middle-flat : (v : ℕ) → Flat (middleShape v)
+unfolding middleShape
+middle-flat v = stands-flat cluster (leb 2 v) _ (stands-flat number32 (leb 1 v) end tt)
+
+middle-onto : (v : ℕ) (r : Shape) → onto (middleShape v) r ≡ stands (leb 2 v) cluster (stands (leb 1 v) number32 r)
+unfolding middleShape
+middle-onto v r = stands-onto cluster (leb 2 v) _ r ∙ ap (stands (leb 2 v) cluster) (stands-onto number32 (leb 1 v) end r)
 
 module _ (s : List ℕ) (p v : ℕ) (r : Nullable) (h : ofText r ≡ on (rowFrom [] (stands (leb 2 v) cluster end)) s p) where
   pub no-cluster : (c : Code.Refusal) → r ≡ Nullable.Refused c → bad (ofRefusal c) ≡ on (rowFrom [] (middleShape v)) s p
@@ -64,11 +76,11 @@ module _ (s : List ℕ) (p v : ℕ) (ts ps rs is : List ℕ) (r : Middle) (h : o
   topics = array (fixed w32 empty) 2 (topicShape (leb 1 v)) end
 
   pub no-middle : (c : Code.Refusal) → r ≡ Middle.Refused c → Runs (λ e. walk false (tailShape v) 0) s p (behindBrokers ts ps rs is) (λ e. bad (ofRefusal c))
-  unfolding tailShape middleShape
+  unfolding tailShape
   no-middle c d = record {
     law = λ e.
-        row-no (middleShape v) (two-flat cluster number32 (leb 2 v) (leb 1 v)) s p topics 0 (behindBrokers ts ps rs is e) (ofRefusal c) (ap ofMiddle (sym d) ∙ h)
-        ∙ ap (λ (l : Shape). on (walk false l 0 (behindBrokers ts ps rs is e)) s p) (two-front cluster number32 (leb 2 v) (leb 1 v) topics);
+        row-no (middleShape v) (middle-flat v) s p topics 0 (behindBrokers ts ps rs is e) (ofRefusal c) (ap ofMiddle (sym d) ∙ h)
+        ∙ ap (λ (l : Shape). on (walk false l 0 (behindBrokers ts ps rs is e)) s p) (middle-onto v topics);
   }
 
   module _ (f : Field) (x : Versioned) (q : ℕ) (d : r ≡ Middle.Took f x q) where
@@ -80,11 +92,11 @@ module _ (s : List ℕ) (p v : ℕ) (ts ps rs is : List ℕ) (r : Middle) (h : o
     after e = inTopics ts ps rs is noMarks (own (row e), e .1)
 
     from-middle : (e : List ℕ × Tab) (z : Res State) → z ≡ on (walk false topics 0 (after e)) s q → z ≡ on (walk false (tailShape v) 0 (behindBrokers ts ps rs is e)) s p
-    unfolding tailShape middleShape add
+    unfolding tailShape add
     from-middle e z g =
-        row-took (middleShape v) (two-flat cluster number32 (leb 2 v) (leb 1 v)) s p topics 0 (behindBrokers ts ps rs is e) (fieldCells f ++ versionedCells x) q (ap ofMiddle (sym d) ∙ h) z
+        row-took (middleShape v) (middle-flat v) s p topics 0 (behindBrokers ts ps rs is e) (fieldCells f ++ versionedCells x) q (ap ofMiddle (sym d) ∙ h) z
         (g ∙ ap (λ (t : Tab). on (walk false topics 0 (inTopics ts ps rs is noMarks (t, e .1))) s q) (sym (store-own (fieldCells f ++ versionedCells x) (e .0))))
-        ∙ ap (λ (l : Shape). on (walk false l 0 (behindBrokers ts ps rs is e)) s p) (two-front cluster number32 (leb 2 v) (leb 1 v) topics)
+        ∙ ap (λ (l : Shape). on (walk false l 0 (behindBrokers ts ps rs is e)) s p) (middle-onto v topics)
 
     pub no-topics : (c : Refusal) → bad c ≡ on (arrayItems false false) s q → Runs (λ e. walk false (tailShape v) 0) s p (behindBrokers ts ps rs is) (λ e. bad c)
     unfolding arrayItems
@@ -118,55 +130,32 @@ module _ (s : List ℕ) (p v : ℕ) (ts ps rs is : List ℕ) (r : Middle) (h : o
 
 -- ---- the body
 
-module _ (s : List ℕ) (v : ℕ) (bs ts ps rs is : List ℕ) (r : Version) (h : ofVersion r ≡ on (rowFrom [] (stands (leb 3 v) number32 end)) s 0) where
-  abbrev start : State
-  start = inTopics ts ps rs is noMarks (own [], tab bs 0)
+module _ (s : List ℕ) (v : ℕ) (bs ts ps rs is : List ℕ) (r : Front) (h : ofFront r ≡ on (frontOf (leb 3 v)) s 0) where
+  abbrev lent : State
+  lent = tab bs 0 ∷ tab ts 0 ∷ tab ps 0 ∷ tab rs 0 ∷ tab is 0 ∷ []
 
-  abbrev rest : Shape
-  rest = array (fixed w32 empty) 1 (brokerShape (leb 1 v)) (tailShape v)
-
-  pub no-throttle : (c : Code.Refusal) → r ≡ Version.Refused c → bad (ofRefusal c) ≡ on (walk false (bodyShape v) 0 start) s 0
+  pub no-front : (c : Code.Refusal) → r ≡ Front.Refused c → bad (ofRefusal c) ≡ on (walk false (bodyShape v) 0 (own [] ∷ lent)) s 0
   unfolding bodyShape
-  no-throttle c d =
-      row-no (stands (leb 3 v) number32 end) (one-flat number32 (leb 3 v)) s 0 rest 0 start (ofRefusal c) (ap ofVersion (sym d) ∙ h)
-      ∙ ap (λ (l : Shape). on (walk false l 0 start) s 0) (one-front number32 (leb 3 v) rest)
+  no-front c d = body-no-front (leb 3 v) s 1 (brokerShape (leb 1 v)) (tailShape v) lent (ofRefusal c) (ap ofFront (sym d) ∙ h)
 
-  module _ (x : Versioned) (p : ℕ) (d : r ≡ Version.Took x p) where
-    abbrev timed : State
-    timed = inTopics ts ps rs is noMarks (own (versionedCells x), tab bs 0)
+  module _ (x : Versioned) (k q : ℕ) (d : r ≡ Front.Took x k q) (bs′ : List ℕ) (a : Filled) (l : Runs (λ e. loop k (walk false (brokerShape (leb 1 v)) 1)) s q (atBrokers bs 0) (filledIs bs′ a)) where
+    -- the tables around that of the brokers
+    abbrev others : Tab × State
+    others = (own (versionedCells x ++ (k ∷ [])), tab ts 0 ∷ tab ps 0 ∷ tab rs 0 ∷ tab is 0 ∷ [])
 
-    from-throttle : (z : Res State) → z ≡ on (walk false rest 0 timed) s p → z ≡ on (walk false (bodyShape v) 0 start) s 0
-    unfolding bodyShape add
-    from-throttle z g =
-        row-took (stands (leb 3 v) number32 end) (one-flat number32 (leb 3 v)) s 0 rest 0 start (versionedCells x) p (ap ofVersion (sym d) ∙ h) z
-        (g ∙ ap (λ (t : Tab). on (walk false rest 0 (inTopics ts ps rs is noMarks (t, tab bs 0))) s p) (sym (store-own (versionedCells x) [])))
-        ∙ ap (λ (l : Shape). on (walk false l 0 start) s 0) (one-front number32 (leb 3 v) rest)
+    pub brokers-bad : (c : Code.Refusal) → a ≡ Filled.Refused c → bad (ofRefusal c) ≡ on (walk false (bodyShape v) 0 (own [] ∷ lent)) s 0
+    unfolding bodyShape
+    brokers-bad c e =
+        body-no-items (leb 3 v) s 1 (brokerShape (leb 1 v)) (tailShape v) lent (versionedCells x) k q (ap ofFront (sym d) ∙ h) (ofRefusal c) (ap (λ (y : Filled). filledIs bs′ y others) (sym e) ∙ l .law others)
 
-    pub no-brokers : (c : Refusal) → bad c ≡ on (arrayItems false false) s p → bad c ≡ on (walk false (bodyShape v) 0 start) s 0
-    unfolding arrayItems
-    no-brokers c g = from-throttle _ (items-no-count false (fixed w32 empty) refl 1 (brokerShape (leb 1 v)) (tailShape v) 0 timed s p c g)
-
-    module _ (k q : ℕ) (g : ok k q ≡ on (arrayItems false false) s p) (bs′ : List ℕ) (a : Filled) (l : Runs (λ e. loop k (walk false (brokerShape (leb 1 v)) 1)) s q (atBrokers bs 0) (filledIs bs′ a)) where
-      -- the tables around that of the brokers
-      abbrev others : Tab × State
-      others = (own (versionedCells x ++ (k ∷ [])), tab ts 0 ∷ tab ps 0 ∷ tab rs 0 ∷ tab is 0 ∷ [])
-
-      brokers-looped : filledIs bs′ a others ≡ on (loop k (walk false (brokerShape (leb 1 v)) 1) (add 0 (k ∷ []) timed)) s q
-      unfolding add
-      brokers-looped = l .law others ∙ ap (λ (y : Tab). on (loop k (walk false (brokerShape (leb 1 v)) 1) (atBrokers bs 0 (y, others .1))) s q) (sym (store-own (k ∷ []) (versionedCells x)))
-
-      pub brokers-bad : (c : Code.Refusal) → a ≡ Filled.Refused c → bad (ofRefusal c) ≡ on (walk false (bodyShape v) 0 start) s 0
-      unfolding arrayItems
-      brokers-bad c e = from-throttle _ (items-no false (fixed w32 empty) refl 1 (brokerShape (leb 1 v)) (tailShape v) 0 timed s p k q g (ofRefusal c) (ap (λ (y : Filled). filledIs bs′ y others) (sym e) ∙ brokers-looped))
-
-      pub body-is : (n b : ℕ) → a ≡ Filled.Took n b → (ts′ ps′ rs′ is′ : List ℕ) (z : Tail) → Runs (λ e. walk false (tailShape v) 0) s n (behindBrokers ts ps rs is) (ofTail ts′ ps′ rs′ is′ z) →
-          (w : Walked) → w ≡ finish x k b z → ofWalked bs′ ts′ ps′ rs′ is′ w ≡ on (walk false (bodyShape v) 0 start) s 0
-      unfolding arrayItems
-      body-is n b e ts′ ps′ rs′ is′ z t w i =
-          ap (ofWalked bs′ ts′ ps′ rs′ is′) i
-          ∙ said z
-          ∙ from-throttle _ (items-took false (fixed w32 empty) refl 1 (brokerShape (leb 1 v)) (tailShape v) 0 timed s p k q g _ n _ (ap (λ (y : Filled). filledIs bs′ y others) (sym e) ∙ brokers-looped) (t .law (versionedCells x ++ (k ∷ []), tab bs′ b)))
-        where
-          said : (z : Tail) → ofWalked bs′ ts′ ps′ rs′ is′ (finish x k b z) ≡ ofTail ts′ ps′ rs′ is′ z (versionedCells x ++ (k ∷ []), tab bs′ b)
-          said (Tail.Took c o n q m) = ap (λ (cs : List ℕ). ok (inTopics ts′ ps′ rs′ is′ m (own cs, tab bs′ b)) q) (sym (append-assoc (versionedCells x) (k ∷ []) (fieldCells c ++ (versionedCells o ++ (n ∷ [])))))
-          said (Tail.Refused c) = refl
+    pub body-is : (n b : ℕ) → a ≡ Filled.Took n b → (ts′ ps′ rs′ is′ : List ℕ) (z : Tail) → Runs (λ e. walk false (tailShape v) 0) s n (behindBrokers ts ps rs is) (ofTail ts′ ps′ rs′ is′ z) →
+        (w : Walked) → w ≡ finish x k b z → ofWalked bs′ ts′ ps′ rs′ is′ w ≡ on (walk false (bodyShape v) 0 (own [] ∷ lent)) s 0
+    unfolding bodyShape
+    body-is n b e ts′ ps′ rs′ is′ z t w i =
+        ap (ofWalked bs′ ts′ ps′ rs′ is′) i
+        ∙ said z
+        ∙ body-took-items (leb 3 v) s 1 (brokerShape (leb 1 v)) (tailShape v) lent (versionedCells x) k q (ap ofFront (sym d) ∙ h) _ n _ (ap (λ (y : Filled). filledIs bs′ y others) (sym e) ∙ l .law others) (t .law (versionedCells x ++ (k ∷ []), tab bs′ b))
+      where
+        said : (z : Tail) → ofWalked bs′ ts′ ps′ rs′ is′ (finish x k b z) ≡ ofTail ts′ ps′ rs′ is′ z (versionedCells x ++ (k ∷ []), tab bs′ b)
+        said (Tail.Took c o n q m) = ap (λ (cs : List ℕ). ok (inTopics ts′ ps′ rs′ is′ m (own cs, tab bs′ b)) q) (sym (append-assoc (versionedCells x) (k ∷ []) (fieldCells c ++ (versionedCells o ++ (n ∷ [])))))
+        said (Tail.Refused c) = refl

@@ -1,5 +1,3 @@
--- fields that a version may lack, in front of others
-pub mod Fronts
 -- what stands around brokers and topics
 pub mod Around
 -- the whole reply of a read

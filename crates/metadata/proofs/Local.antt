@@ -1,16 +1,16 @@
 -- The calls themselves, whatever replies their promises allow: nothing behind the bytes that an accepted read used has a part in its answer,
 -- and versions 3 and 4, which have one layout, are read alike.
-use mathlib.Core.Bool.{false}
 use mathlib.Core.List.{List, _++_}
 use mathlib.Core.Path.{_∙_, _≡_, ap, refl, sym}
 use Prim.Native.Nat.{_≤_, ℕ}
+use native.Mathlib.Omega.{arith}
 use lib.IntN.{pos, ℤ}
 use lib.ListN.{length, take}
-use Rattle.layout.specs.Tables.{Tables, append, readRows}
-use Rattle.layout.specs.Rows.{Shape, at, standing, stands}
-use Rattle.layout.specs.Answers.{Answer, accepted, ended, judged, limited, most, noRows, prefixRead, readAnswer, seen, shape}
+use Rattle.layout.specs.Rows.{at, standing, stands}
+use Rattle.layout.specs.Answers.{Answer, accepted, most, prefixRead, shape}
 use Rattle.layout.specs.Messages.Metadata as Meta
 use Rattle.layout.proofs.Calls.{local-reply}
+use Rattle.rows.proofs.Reply.{one-layout}
 use Rattle.metadata.specs.Answers.{ofResponseReply}
 use Rattle.metadata.proofs.Unique.{Five, Told, listed, response-unique, said}
 
@@ -34,8 +34,4 @@ one-shape = refl
 
 -- a body is read alike at 3 and at 4
 pub three-as-four : (msg : List ℕ) (lent : Five) (x y : Told) → PrefixRead msg (pos 3) lent x → PrefixRead msg (pos 4) lent y → x ≡ y
-unfolding prefixRead readAnswer seen
-three-as-four msg lent x y p q = response-unique _ x y p (q ∙ sym (ap read-at one-shape))
-  where
-    read-at : Shape → Answer × Tables
-    read-at l = judged Meta.response (listed lent) (limited (length msg) (ended false (length msg) (readRows false append l 0 (noRows Meta.response) 0 msg)))
+three-as-four msg lent x y p q = response-unique _ x y p (q ∙ sym (one-layout Meta.response 3 4 (omega arith) (omega arith) one-shape (listed lent) msg))

@@ -1,34 +1,27 @@
 -- The whole reply of a read, from what the measuring and the filling walk came to.
 use mathlib.Core.Bool.{false, true}
 use mathlib.Core.List.{List, [], _∷_}
-use mathlib.Core.Option.{none, some}
 use mathlib.Core.Path.{_∙_, _≡_, ap, refl, sym}
-use Prim.Native.Nat.{_/_, _<_, _≤_, suc, zero, ℕ}
-use native.Mathlib.Nat.{div-one}
-use native.Mathlib.Omega.{arith}
-use lib.IntN.{negsuc, pos, ℤ}
+use Prim.Native.Nat.{_/_, _<_, _≤_, ℕ}
+use lib.IntN.{pos, ℤ}
 use lib.ListN.{length}
-use mir.Facts.{toZ-ofZ}
-use mir.Syntax.{w16}
-use mir.Val.{SFits, ofZ, toZ}
-use Rattle.layout.specs.Reading.{Refusal, Res, bad, because, ok}
+use Rattle.layout.specs.Reading.{Refusal, Res, ok}
 use Rattle.layout.specs.Rows.{Shape, at, standing, stands}
 use Rattle.layout.specs.Tables.{Tables, all, arrays, from, kindIn, kindOf, rowWidth, width}
-use Rattle.layout.specs.Answers.{Answer, accepted, prefixRead, refused, seen, shape, widths}
+use Rattle.layout.specs.Answers.{accepted, prefixRead, refused, seen, shape, widths}
 use Rattle.layout.specs.Messages.Metadata as Meta
-use Rattle.layout.proofs.Calls.{too-long, version-above, version-below}
 use Rattle.layout.proofs.Local.{not-ok}
 use Rattle.layout.proofs.Proper.{metadata-response}
-use Rattle.layout.proofs.Tests.{le-false, le-true}
 use Rattle.primitives.specs.Answers.{noRoom, ofRefusal, versionOf}
 use Rattle.primitives.specs.declared.Refusal as Code
-use Rattle.primitives.proofs.Versions.{known}
 use Rattle.rows.specs.Meter.{lengths, metered, short}
 use Rattle.rows.specs.Store.{State, own, tab}
 use Rattle.rows.specs.Walk.{on, walk}
 use Rattle.rows.proofs.Bound.{lean, slim, taken}
 use Rattle.rows.proofs.Close.{slices, tabs}
 use Rattle.rows.proofs.Metered.{is-known, measured-no, measured-took, metered-fits, metered-no, metered-short}
+use Rattle.rows.proofs.Reply.{up-to-four}
+use Rattle.rows.proofs.Rooms.{cells-here, cells-next, short-here, short-next, short-none}
 use Rattle.brokers.specs.Brokers.{brokerShape}
 use Rattle.topics.specs.Shapes.{nodeShape, partitionShape, topicShape}
 use Rattle.topics.specs.declared.Marks.{Marks}
@@ -52,12 +45,7 @@ row-widths = refl
 -- the layout of a version, by what sets it apart
 pub shape-is : (v : ℕ) → v ≤ 4 → shape Meta.response v ≡ bodyShape v
 unfolding shape at stands standing Meta.nodeRows Meta.partitionRows Meta.topicRows Meta.brokerRows Meta.responseRows bodyShape tailShape brokerShape topicShape partitionShape nodeShape
-shape-is zero h = refl
-shape-is (suc zero) h = refl
-shape-is (suc (suc zero)) h = refl
-shape-is (suc (suc (suc zero))) h = refl
-shape-is (suc (suc (suc (suc zero)))) h = refl
-shape-is (suc (suc (suc (suc (suc v))))) h = absurd (omega arith)
+shape-is = up-to-four (λ v. shape Meta.response v ≡ bodyShape v) refl refl refl refl refl
 
 -- ---- room, in table order
 
@@ -66,32 +54,38 @@ module _ (k : ℕ) (m : Marks) (b t p r i : ℕ) where
   Lacks o = ofRoom o ≡ short (widths Meta.response) (sizes k m) (b ∷ t ∷ p ∷ r ∷ i ∷ [])
 
   pub short-brokers : b / 7 < k / 7 → Lacks (Room.Needs (k / 7))
-  unfolding short
-  short-brokers h = rw (row-widths, le-false (k / 7) (b / 7) h)
+  short-brokers h = rw row-widths (sym (short-here 7 _ k _ b _ h))
 
   module _ (f : k / 7 ≤ b / 7) where
+    behind-brokers : short (widths Meta.response) (sizes k m) (b ∷ t ∷ p ∷ r ∷ i ∷ []) ≡ short (5 ∷ 5 ∷ 1 ∷ 1 ∷ []) (m .topics ∷ m .partitions ∷ m .replicas ∷ m .synced ∷ []) (t ∷ p ∷ r ∷ i ∷ [])
+    behind-brokers = rw row-widths (short-next 7 _ k _ b _ f)
+
     pub short-topics : t / 5 < m .topics / 5 → Lacks (Room.Needs (m .topics / 5))
-    unfolding short
-    short-topics h = rw (row-widths, le-true (k / 7) (b / 7) f, le-false (m .topics / 5) (t / 5) h)
+    short-topics h = sym (behind-brokers ∙ short-here 5 _ (m .topics) _ t _ h)
 
     module _ (g : m .topics / 5 ≤ t / 5) where
+      behind-topics : short (widths Meta.response) (sizes k m) (b ∷ t ∷ p ∷ r ∷ i ∷ []) ≡ short (5 ∷ 1 ∷ 1 ∷ []) (m .partitions ∷ m .replicas ∷ m .synced ∷ []) (p ∷ r ∷ i ∷ [])
+      behind-topics = behind-brokers ∙ short-next 5 _ (m .topics) _ t _ g
+
       pub short-partitions : p / 5 < m .partitions / 5 → Lacks (Room.Needs (m .partitions / 5))
-      unfolding short
-      short-partitions h = rw (row-widths, le-true (k / 7) (b / 7) f, le-true (m .topics / 5) (t / 5) g, le-false (m .partitions / 5) (p / 5) h)
+      short-partitions h = sym (behind-topics ∙ short-here 5 _ (m .partitions) _ p _ h)
 
       module _ (h : m .partitions / 5 ≤ p / 5) where
+        behind-partitions : short (widths Meta.response) (sizes k m) (b ∷ t ∷ p ∷ r ∷ i ∷ []) ≡ short (1 ∷ 1 ∷ []) (m .replicas ∷ m .synced ∷ []) (r ∷ i ∷ [])
+        behind-partitions = behind-topics ∙ short-next 5 _ (m .partitions) _ p _ h
+
         pub short-replicas : r < m .replicas → Lacks (Room.Needs (m .replicas))
-        unfolding short
-        short-replicas j = rw (row-widths, le-true (k / 7) (b / 7) f, le-true (m .topics / 5) (t / 5) g, le-true (m .partitions / 5) (p / 5) h, div-one (m .replicas), div-one r, le-false (m .replicas) r j)
+        short-replicas j = sym (behind-partitions ∙ cells-here _ (m .replicas) _ r _ j)
 
         module _ (j : m .replicas ≤ r) where
-          pub short-synced : i < m .synced → Lacks (Room.Needs (m .synced))
-          unfolding short
-          short-synced l = rw (row-widths, le-true (k / 7) (b / 7) f, le-true (m .topics / 5) (t / 5) g, le-true (m .partitions / 5) (p / 5) h, div-one (m .replicas), div-one r, le-true (m .replicas) r j, div-one (m .synced), div-one i, le-false (m .synced) i l)
+          behind-replicas : short (widths Meta.response) (sizes k m) (b ∷ t ∷ p ∷ r ∷ i ∷ []) ≡ short (1 ∷ []) (m .synced ∷ []) (i ∷ [])
+          behind-replicas = behind-partitions ∙ cells-next _ (m .replicas) _ r _ j
 
-          pub short-none : m .synced ≤ i → Lacks Room.Enough
-          unfolding short
-          short-none l = rw (row-widths, le-true (k / 7) (b / 7) f, le-true (m .topics / 5) (t / 5) g, le-true (m .partitions / 5) (p / 5) h, div-one (m .replicas), div-one r, le-true (m .replicas) r j, div-one (m .synced), div-one i, le-true (m .synced) i l)
+          pub short-synced : i < m .synced → Lacks (Room.Needs (m .synced))
+          short-synced l = sym (behind-replicas ∙ cells-here _ (m .synced) _ i _ l)
+
+          pub short-nowhere : m .synced ≤ i → Lacks Room.Enough
+          short-nowhere l = sym (behind-replicas ∙ cells-next _ (m .synced) _ i _ l ∙ short-none [] [])
 
 -- ---- the measure
 
@@ -108,27 +102,6 @@ module _ (v : ℕ) (s bs ts ps rs is : List ℕ) where
       measured-took Meta.response metadata-response is-slim v h s size (bs ∷ ts ∷ ps ∷ rs ∷ is ∷ []) refl (ofResponse x) (tab bs′ b ∷ tab ts′ (m .topics) ∷ tab ps′ (m .partitions) ∷ tab rs′ (m .replicas) ∷ tab is′ (m .synced) ∷ []) n (e ∙ as-shape h)
   measured h size bs′ ts′ ps′ rs′ is′ (Walked.Refused c) e =
       measured-no Meta.response metadata-response is-slim v h s size (bs ∷ ts ∷ ps ∷ rs ∷ is ∷ []) refl (ofRefusal c) (e ∙ as-shape h)
-
--- 1 and 2 come first
-module _ (z : ℤ) (v : ℕ) (e : v ≡ versionOf z) (s : List ℕ) (c : Refusal) where
-  pub measure-unknown : 4 < v → c ≡ because 1 0 → bad c ≡ metered (seen false Meta.response z s)
-  unfolding metered
-  measure-unknown h d = ap bad d ∙ ap metered (sym (go z e))
-    where
-      go : (z : ℤ) → v ≡ versionOf z → seen false Meta.response z s ≡ bad (because 1 0)
-      go (pos n) i = version-above false Meta.response n s (omega arith)
-      go (negsuc n) i = version-below false Meta.response n s
-
-  pub measure-long : v ≤ 4 → 1048576 < length s → c ≡ because 2 0 → bad c ≡ metered (seen false Meta.response z s)
-  unfolding metered
-  measure-long h l d = ap bad d ∙ ap metered (sym (too-long false Meta.response v s h l)) ∙ ap (λ (y : ℤ). metered (seen false Meta.response y s)) (known Meta.response z v e h (omega arith))
-
-pub measure-at : (z : ℤ) (v : ℕ) → v ≡ versionOf z → v ≤ 4 → (s : List ℕ) (o : Res (List ℕ × List ℕ)) → o ≡ metered (seen false Meta.response (pos v) s) → o ≡ metered (seen false Meta.response z s)
-measure-at z v e h s o d = d ∙ ap (λ (y : ℤ). metered (seen false Meta.response y s)) (known Meta.response z v e h (omega arith))
-
--- of a version that passed an argument
-pub measure-passed : (z : ℤ) → SFits w16 z → (s : List ℕ) (o : Res (List ℕ × List ℕ)) → o ≡ metered (seen false Meta.response (toZ w16 (ofZ w16 z)) s) → o ≡ metered (seen false Meta.response z s)
-measure-passed z f s o d = d ∙ ap (λ (y : ℤ). metered (seen false Meta.response y s)) (toZ-ofZ f)
 
 -- ---- the reply
 

@@ -1,29 +1,20 @@
 -- The promises of the calls determine the replies and the tables.
 use mathlib.Core.List.{List, [], _++_, _∷_}
 use mathlib.Core.Path.{_≡_, refl}
-use Prim.Native.Nat.{ℕ, suc, zero}
+use Prim.Native.Nat.{ℕ}
 use lib.ListN.{getD}
 use Rattle.layout.specs.Reading.{Res, bad, ok}
 use Rattle.layout.specs.Tables.{Tables}
 use Rattle.layout.specs.Answers.{Answer, accepted, refused}
 use Rattle.primitives.proofs.Unique.{refusalOf, unique}
 use Rattle.fields.specs.declared.Field.{Field}
-use Rattle.topics.specs.declared.Marks.{Marks}
 use Rattle.versioned.specs.Cells.{fieldCells, versionedCells}
 use Rattle.versioned.specs.declared.Versioned.{Versioned}
+use Rattle.versioned.proofs.Unique.{fieldOf, versionedOf}
 use Rattle.metadata.specs.Answers.{ofMeasure, ofResponseReply}
 use Rattle.metadata.specs.declared.ResponseBody.{ResponseBody}
 use Rattle.metadata.specs.declared.ResponseReply.{ResponseReply}
 use Rattle.metadata.specs.declared.body.Walked.{Walked}
-
-abbrev versionedOf : ℕ → ℕ → Versioned
-versionedOf zero n = Versioned.Absent
-versionedOf (suc k) n = Versioned.Present n
-
-abbrev fieldOf : ℕ → ℕ → ℕ → Field
-fieldOf zero a k = Field.Absent
-fieldOf (suc zero) a k = Field.Null
-fieldOf (suc (suc n)) a k = Field.Present a k
 
 abbrev bodyOf : List ℕ → ResponseBody
 bodyOf cs = record {

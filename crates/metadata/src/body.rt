@@ -7,7 +7,6 @@ ghost use Rattle.rows.specs.Walk.{Runs, on, rowFrom, walk};
 ghost use Rattle.metadata.specs.Shapes.{bodyShape, middleShape, tailShape};
 ghost use Rattle.metadata.specs.Walks.{behindBrokers, finish, ofMiddle, ofTail, ofWalked};
 use crate::ResponseBody;
-use brokers::Filled;
 use brokers::brokers_in;
 use fields::Field;
 use fields::Nullable;
@@ -17,10 +16,13 @@ use primitives::Refusal;
 use topics::Marked;
 use topics::Marks;
 use topics::topics_in;
+use versioned::Front;
 use versioned::Version;
 use versioned::Versioned;
+use versioned::front_of;
 use versioned::int32_if;
 use versioned::nullable_string_if;
+use walks::Filled;
 
 // What stands between brokers and topics, and the place behind it.
 pub enum Middle {
@@ -151,25 +153,20 @@ pub fn body_at(
 ) -> Walked
     ensures { λ r. ⌜ ofWalked (now (brokers .exit)) (now (topics .exit)) (now (partitions .exit)) (now (replicas .exit)) (now (synced .exit)) r ≡ on (walk false (bodyShape v) 0 (own [] ∷ tab (now (brokers .entry)) 0 ∷ tab (now (topics .entry)) 0 ∷ tab (now (partitions .entry)) 0 ∷ tab (now (replicas .entry)) 0 ∷ tab (now (synced .entry)) 0 ∷ [])) (now (s .entry)) 0 ⌝ }
 {
-    match int32_if(s, 0, 3 <= v) {
-        Version::Took {
-            value: throttle,
+    match front_of(s, 3 <= v) {
+        Front::Took {
+            throttle,
+            count,
             next: p,
-        } => match items_at(s, p, false, false) {
-            Number::Took {
-                value: count,
-                used: q,
-            } => match brokers_in(s, q, 1 <= v, count, brokers) {
-                Filled::Took { next, mark } => finished(
-                    throttle,
-                    count,
-                    mark,
-                    tail_at(s, next, v, topics, partitions, replicas, synced),
-                ),
-                Filled::Refused(e) => Walked::Refused(e),
-            },
-            Number::Refused(e) => Walked::Refused(e),
+        } => match brokers_in(s, p, 1 <= v, count, brokers) {
+            Filled::Took { next, mark } => finished(
+                throttle,
+                count,
+                mark,
+                tail_at(s, next, v, topics, partitions, replicas, synced),
+            ),
+            Filled::Refused(e) => Walked::Refused(e),
         },
-        Version::Refused(e) => Walked::Refused(e),
+        Front::Refused(e) => Walked::Refused(e),
     }
 }

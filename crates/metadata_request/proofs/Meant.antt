@@ -17,34 +17,30 @@ use Rattle.layout.specs.Tables.{Tables, addsUp, all, arrays, asked, basicOf, ch
 use Rattle.layout.specs.Write.{basicFault, each, fault, firstOf, or, sizedFault, unless, write, writeBasic}
 use Rattle.layout.proofs.Proper.{both}
 use Rattle.layout.proofs.Sums.{sum-zero}
+use Rattle.rows.proofs.Reply.{up-to-four}
 use Rattle.layout.proofs.Tests.{le-true, of-eq}
 use Rattle.rows.proofs.Chunks.{chunks-many, rows-many}
 use Rattle.rows.proofs.Faults.{or-none}
 use Rattle.rows.proofs.Judged.{all-eq}
 use Rattle.put.specs.declared.Form.{Form}
 use Rattle.put.specs.Put.{behindLength, sizeOf}
-use Rattle.writers.specs.Answers.{lengthFault}
-use Rattle.tags_written.proofs.Walk.{told-none}
+use Rattle.ranges.specs.Asked.{allRanged, nameOf, ranged, stringFault}
+use Rattle.ranges.proofs.Counts.{told-none}
 use Rattle.primitives.specs.Answers.{versionOf}
 use Rattle.primitives.proofs.Versions.{known}
 use Rattle.metadata_request.specs.Answers.{ofCreation}
 use Rattle.metadata_request.specs.declared.Creation.{Creation}
-use Rattle.metadata_request.specs.Parts.{allRanged, arrayBytes, creationBytes, creationShape, flagOf, nameBytes, nameFault, nameOf, nameShape, namesBytes, namesFault, ranged, requestBytes, requestFault, requestGood, requestShape, topicsBytes}
+use Rattle.metadata_request.specs.Parts.{arrayBytes, creationBytes, creationShape, flagOf, nameBytes, nameFault, nameShape, namesBytes, namesFault, requestBytes, requestFault, requestGood, requestShape, topicsBytes}
 use Rattle.rows.proofs.Turns.{each-map, first-map, times-rows}
 
 is-shape : (v : ℕ) → v ≤ 4 → shape request v ≡ requestShape (leb 4 v)
 unfolding shape at stands standing requestRows nameRows
-is-shape zero h = refl
-is-shape (suc zero) h = refl
-is-shape (suc (suc zero)) h = refl
-is-shape (suc (suc (suc zero))) h = refl
-is-shape (suc (suc (suc (suc zero)))) h = refl
-is-shape (suc (suc (suc (suc (suc v))))) h = absurd (omega arith)
+is-shape = up-to-four (λ v. shape request v ≡ requestShape (leb 4 v)) refl refl refl refl refl
 
 -- ---- 13, at every version
 
 module _ (size c k m : ℕ) (topics : List ℕ) where
-  name-good : (r : List ℕ) → (goodSpan size false r && true) ≡ ranged size r
+  name-good : (r : List ℕ) → (goodSpan size false r && true) ≡ ranged 0 size r
   unfolding goodSpan ranged
   name-good r = and-true _
 
@@ -63,14 +59,14 @@ module _ (size c k m : ℕ) (topics : List ℕ) where
   is-good =
       (λ i.
       (goodCount true c && (always (eqb k 0) i && true))
-      && ((all-eq (λ (r : List ℕ). goodSpan size false r && true) (ranged size) name-good (rowsOf 2 topics) i && true)
+      && ((all-eq (λ (r : List ℕ). goodSpan size false r && true) (ranged 0 size) name-good (rowsOf 2 topics) i && true)
       && (eqb (adds i) (rows-many 2 topics i) && true)))
-      ∙ fewer (goodCount true c) (all (ranged size) (rowsOf 2 topics)) (eqb (count c) (length topics / 2))
+      ∙ fewer (goodCount true c) (all (ranged 0 size) (rowsOf 2 topics)) (eqb (count c) (length topics / 2))
 
   -- a good table has the rows that the count tells
   pub good-rows : requestGood size c topics ≡ true → count c ≡ length topics / 2
   unfolding requestGood
-  good-rows g = of-eq (count c) (length topics / 2) (both (allRanged size topics) _ (both (goodCount true c) _ g .1) .1)
+  good-rows g = of-eq (count c) (length topics / 2) (both (allRanged 2 0 size topics) _ (both (goodCount true c) _ g .1) .1)
 
 -- ---- a row of names
 
@@ -87,7 +83,7 @@ module _ (lent : List ℕ) where
   name-bytes r = append-nil _
 
   name-fault : (r : List ℕ) → fault nameShape (meaning r) ≡ nameFault lent r
-  unfolding fault basicFault sizedFault nameFault lengthFault
+  unfolding fault basicFault sizedFault nameFault stringFault
   name-fault r = or-none _
 
 module _ (lent : List ℕ) (c k m : ℕ) (topics : List ℕ) where

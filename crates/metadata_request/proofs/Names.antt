@@ -10,9 +10,8 @@ use lib.Dec.{lit<}
 use lib.ListN.{getD, length}
 use borrow.Author.Tests.{eq-eqb, ne-eqb}
 use borrow.Rule.Slice.PartMut.{midOf, putMid}
-use Rattle.layout.specs.Primitives.{fixed, flagBytes, lengthBytes, minus, never, nullBytes, w16}
-use Rattle.layout.specs.Tables.{count, inside, rowsOf, slice}
-use Rattle.layout.specs.Utf8.{utf8}
+use Rattle.layout.specs.Primitives.{flagBytes, lengthBytes, minus, nullBytes}
+use Rattle.layout.specs.Tables.{count, rowsOf, slice}
 use Rattle.layout.specs.Write.{or, unless}
 use Rattle.layout.proofs.Tests.{lt-false, lt-true}
 use Rattle.rows.specs.Step.{Capped, cap}
@@ -22,10 +21,10 @@ use Rattle.rows.proofs.Step.{step-nothing}
 use Rattle.put.specs.declared.Form.{Form}
 use Rattle.put.specs.Put.{Put, behindLength, sizeOf}
 use Rattle.put.proofs.Stored.{put-step}
-use Rattle.writers.specs.Answers.{lengthFault}
-use Rattle.tags_written.proofs.Walk.{rows-other, rows-same}
+use Rattle.ranges.specs.Asked.{allRanged, nameOf, stringFault}
+use Rattle.ranges.proofs.Counts.{rows-other, rows-same}
 use Rattle.metadata_request.specs.declared.Creation.{Creation}
-use Rattle.metadata_request.specs.Parts.{allRanged, arrayBytes, creationBytes, flagOf, nameBytes, nameFault, nameOf, namesBytes, namesFault, ranged, requestBytes, requestFault, requestGood, topicsBytes}
+use Rattle.metadata_request.specs.Parts.{arrayBytes, creationBytes, flagOf, nameBytes, nameFault, namesBytes, namesFault, requestBytes, requestFault, requestGood, topicsBytes}
 
 -- ---- a row's cells stand in the table from twice its number on
 
@@ -36,18 +35,14 @@ module _ (topics : List ℕ) (i : ℕ) (h : i < length topics / 2) where
   length-at : getD (getD (rowsOf 2 topics) i []) 1 0 ≡ getD topics (i * 2 + 1) 0
   length-at = row-cell 2 topics i h 1 (lit< tt)
 
-  pub range-told : (size : ℕ) (b : Bool) → b ≡ inside size (getD topics (i * 2) 0) (getD topics (i * 2 + 1) 0) → b ≡ ranged size (getD (rowsOf 2 topics) i [])
-  unfolding ranged
-  range-told size b e = e ∙ sym (ap₂ (inside size) start-at length-at)
-
   module _ (lent x : List ℕ) (e : x ≡ slice lent (getD topics (i * 2) 0, getD topics (i * 2 + 1) 0)) where
     is-name : x ≡ nameOf lent (getD (rowsOf 2 topics) i [])
     unfolding nameOf
     is-name = e ∙ sym (ap₂ (λ (a k : ℕ). slice lent (a, k)) start-at length-at)
 
-    pub fault-told : (r : ℕ) → r ≡ lengthFault (fixed w16 never) x (unless (utf8 x) 7) → r ≡ nameFault lent (getD (rowsOf 2 topics) i [])
+    pub fault-told : (r : ℕ) → r ≡ stringFault x → r ≡ nameFault lent (getD (rowsOf 2 topics) i [])
     unfolding nameFault
-    fault-told r f = f ∙ ap (λ (y : List ℕ). lengthFault (fixed w16 never) y (unless (utf8 y) 7)) is-name
+    fault-told r f = f ∙ ap stringFault is-name
 
     pub name-put : {d d′ : List ℕ} {n : ℕ} → Put (behindLength (sizeOf Form.Int16) x) d n d′ → Capped (nameBytes lent (getD (rowsOf 2 topics) i [])) d n d′
     unfolding nameBytes
@@ -58,27 +53,11 @@ module _ (topics : List ℕ) (i : ℕ) (h : i < length topics / 2) where
 module _ (size c : ℕ) (topics : List ℕ) where
   pub other-count : {k : ℕ} → k ≡ count c → k ≢ length topics / 2 → false ≡ requestGood size c topics
   unfolding requestGood
-  other-count e h = rows-other c (length topics / 2) (allRanged size topics) e h
+  other-count e h = rows-other c (length topics / 2) (allRanged 2 0 size topics) e h
 
-  pub same-count : {k : ℕ} → k ≡ count c → k ≡ length topics / 2 → length topics < 2 ^ 64 → (b : Bool) → b ≡ allRanged size topics → b ≡ requestGood size c topics
+  pub same-count : {k : ℕ} → k ≡ count c → k ≡ length topics / 2 → length topics < 2 ^ 64 → (b : Bool) → b ≡ allRanged 2 0 size topics → b ≡ requestGood size c topics
   unfolding requestGood
-  same-count e h l b i = rows-same c (length topics / 2) (allRanged size topics) e h (omega arith) b i
-
--- ---- 11 before 7
-
-module _ (x : List ℕ) where
-  pub text-wide : 32768 ≤ length x → 11 ≡ lengthFault (fixed w16 never) x (unless (utf8 x) 7)
-  unfolding lengthFault unless or
-  text-wide h = sym (rw (lt-false (length x) 32768 h))
-
-  module _ (h : length x < 32768) (b : Bool) (e : b ≡ utf8 x) where
-    pub text-good : b ≡ true → 0 ≡ lengthFault (fixed w16 never) x (unless (utf8 x) 7)
-    unfolding lengthFault unless or
-    text-good k = sym (rw (lt-true (length x) 32768 h, ← e, k))
-
-    pub text-bad : b ≡ false → 7 ≡ lengthFault (fixed w16 never) x (unless (utf8 x) 7)
-    unfolding lengthFault unless or
-    text-bad k = sym (rw (lt-true (length x) 32768 h, ← e, k))
+  same-count e h l b i = rows-same c (length topics / 2) (allRanged 2 0 size topics) e h (omega arith) b i
 
 -- ---- 13, 11, 7 or none of them
 

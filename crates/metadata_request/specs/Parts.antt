@@ -4,15 +4,14 @@ use mathlib.Core.Bool.{Bool, _&&_, cond, false, true}
 use mathlib.Core.List.{List, [], _++_, _∷_}
 use Prim.Native.Nat.{_/_, _^_, ℕ}
 use lib.Dec.{eqb, ltb}
-use lib.ListN.{getD, length}
+use lib.ListN.{length}
 use Rattle.layout.specs.Primitives.{fixed, flagBytes, kept, lengthBytes, minus, never, nullBytes, w16, w32}
 use Rattle.layout.specs.Rows.{Shape, absent, array, boolean, end, field, optional, text}
-use Rattle.layout.specs.Tables.{all, count, goodCount, inside, rowsOf, slice}
-use Rattle.layout.specs.Utf8.{utf8}
+use Rattle.layout.specs.Tables.{count, goodCount, rowsOf}
 use Rattle.layout.specs.Write.{each, firstOf, or, unless}
-use Rattle.writers.specs.Answers.{lengthFault}
 use Rattle.put.specs.declared.Form.{Form}
 use Rattle.put.specs.Put.{behindLength, sizeOf}
+use Rattle.ranges.specs.Asked.{allRanged, nameOf, stringFault}
 use Rattle.metadata_request.specs.declared.Creation.{Creation}
 
 abbrev pub nameShape : Shape
@@ -29,10 +28,6 @@ requestShape f = array (fixed w32 kept) 1 nameShape (creationShape f)
 abbrev pub flagOf : Creation → Bool
 flagOf Creation.Unset = true
 flagOf (Creation.Set b) = b
-
--- the name of a row
-unfoldable pub nameOf : List ℕ → List ℕ → List ℕ
-nameOf lent r = slice lent (getD r 0 0, getD r 1 0)
 
 -- ---- the bytes
 
@@ -56,21 +51,13 @@ requestBytes f lent c flag topics = topicsBytes lent c topics ++ creationBytes f
 
 -- ---- 13
 
--- the row's name is inside the lent bytes, `size` in all
-unfoldable pub ranged : ℕ → List ℕ → Bool
-ranged size r = inside size (getD r 0 0) (getD r 1 0)
-
-unfoldable pub allRanged : ℕ → List ℕ → Bool
-allRanged size topics = all (ranged size) (rowsOf 2 topics)
-
 unfoldable pub requestGood : ℕ → ℕ → List ℕ → Bool
-requestGood size c topics = goodCount true c && (allRanged size topics && eqb (count c) (length topics / 2))
+requestGood size c topics = goodCount true c && (allRanged 2 0 size topics && eqb (count c) (length topics / 2))
 
 -- ---- 11 and 7
 
--- 11 before 7; 0 is neither
 unfoldable pub nameFault : List ℕ → List ℕ → ℕ
-nameFault lent r = lengthFault (fixed w16 never) (nameOf lent r) (unless (utf8 (nameOf lent r)) 7)
+nameFault lent r = stringFault (nameOf lent r)
 
 unfoldable pub namesFault : List ℕ → List ℕ → ℕ
 namesFault lent topics = firstOf (nameFault lent) (rowsOf 2 topics)

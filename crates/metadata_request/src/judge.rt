@@ -1,27 +1,13 @@
 // What is refused of a Metadata request before a byte is written: rows that do not add up, names outside the lent bytes, and names that have a fault.
 ghost use mathlib.Core.Path.{_≡_};
 ghost use lib.ListN.{length};
-ghost use Rattle.metadata_request.specs.Parts.{allRanged, requestFault, requestGood};
+ghost use Rattle.metadata_request.specs.Parts.{requestFault, requestGood};
 use crate::texts::names_fault;
 use primitives::BAD_TABLES;
 use primitives::TOO_WIDE;
-use tags_written::is_inside;
-use tags_written::rows_told;
-
-// Are all names inside?
-fn all_ranged(size: usize, topics: &[u64]) -> bool
-    ensures { λ r. ⌜ r ≡ allRanged size (now (topics .entry)) ⌝ }
-{
-    let n = topics.len() / 2;
-    let mut i: usize = 0;
-    while i < n {
-        if !is_inside(size, topics[i * 2], topics[i * 2 + 1]) {
-            return false;
-        }
-        i = i + 1;
-    }
-    true
-}
+use ranges::Row;
+use ranges::all_ranged;
+use ranges::rows_told;
 
 // The table has the rows that the count tells, and all names are inside.
 fn is_good(size: usize, count: u64, topics: &[u64]) -> bool
@@ -30,7 +16,7 @@ fn is_good(size: usize, count: u64, topics: &[u64]) -> bool
     if rows_told(count) != (topics.len() / 2) as u64 {
         return false;
     }
-    all_ranged(size, topics)
+    all_ranged(size, topics, Row::Name)
 }
 
 // 13, 11, 7, or 0 for none of them. More names than an array's count can tell are 11 too.

@@ -3,34 +3,16 @@ ghost use mathlib.Core.Path.{_≡_};
 ghost use mathlib.Core.List.{[]};
 ghost use lib.ListN.{getD, length};
 ghost use Prim.Native.Nat.{_/_, _<_};
-ghost use Rattle.layout.specs.Primitives.{fixed, never, w16};
 ghost use Rattle.layout.specs.Tables.{rowsOf};
-ghost use Rattle.layout.specs.Utf8.{utf8};
-ghost use Rattle.layout.specs.Write.{unless};
-ghost use Rattle.writers.specs.Answers.{lengthFault};
 ghost use Rattle.metadata_request.specs.Parts.{nameFault, namesFault};
-use primitives::NOT_TEXT;
-use primitives::TOO_WIDE;
-use tags_written::part;
-
-// 11 before 7, or 0 for neither.
-fn text_fault(name: &[u8]) -> u8
-    ensures { λ r. ⌜ r ≡ lengthFault (fixed w16 never) (now (name .entry)) (unless (utf8 (now (name .entry))) 7) ⌝ }
-{
-    if 32768 <= name.len() {
-        return TOO_WIDE;
-    }
-    if utf8::is_text(name) {
-        return 0;
-    }
-    NOT_TEXT
-}
+use ranges::part;
+use ranges::string_fault;
 
 fn name_fault(lent: &[u8], topics: &[u64], i: usize) -> u8
     requires { ⌜ i < length (now topics) / 2 ⌝ }
     ensures { λ r. ⌜ r ≡ nameFault (now (lent .entry)) (getD (rowsOf 2 (now (topics .entry))) i []) ⌝ }
 {
-    text_fault(part(lent, topics[i * 2], topics[i * 2 + 1]))
+    string_fault(part(lent, topics[i * 2], topics[i * 2 + 1]))
 }
 
 // That of the first name that has one.

@@ -20,7 +20,7 @@ use primitives::at;
 use primitives::no_room;
 use primitives::version_of;
 use put::Form;
-use tags_written::part;
+use ranges::part;
 use writers::Written;
 
 // ---- the walk

@@ -2,5 +2,5 @@
 pub mod OnRest
 -- the number of items
 pub mod Counts
--- a compact string
-pub mod TextAt
+-- texts and data
+pub mod PartAt

@@ -1,9 +1,9 @@
 // Primitives at a place of a message, as walks over a body read them: each is read on the rest from the place on, and its answer counts from the message's start.
 ghost use mathlib.Core.Bool.{false};
 ghost use mathlib.Core.Path.{_≡_};
-ghost use Rattle.layout.specs.Primitives.{cell, compact, fixed, flag, kept, never, unsigned, w16, w32};
+ghost use Rattle.layout.specs.Primitives.{cell, compact, empty, fixed, flag, kept, never, unsigned, w16, w32, w64};
 ghost use Rattle.layout.specs.Read.{byPlace, readBasic};
-ghost use Rattle.layout.specs.Rows.{text};
+ghost use Rattle.layout.specs.Rows.{blob, text};
 ghost use Rattle.primitives.specs.Answers.{ofFlag, ofNumber};
 ghost use Rattle.fields.specs.Answers.{counted, ofCount, ofField, ofNullable, ofPart, there};
 ghost use Rattle.rows.specs.Walk.{on};
@@ -44,6 +44,12 @@ pub fn int32_at(s: &[u8], p: usize) -> Number
     ensures { λ r. ⌜ ofNumber r ≡ on (cell w32) (now (s .entry)) p ⌝ }
 {
     moved(numbers::int32(parts::rest(s, p)), p)
+}
+
+pub fn int64_at(s: &[u8], p: usize) -> Number
+    ensures { λ r. ⌜ ofNumber r ≡ on (cell w64) (now (s .entry)) p ⌝ }
+{
+    moved(numbers::int64(parts::rest(s, p)), p)
 }
 
 pub fn varint_at(s: &[u8], p: usize) -> Number
@@ -109,6 +115,13 @@ pub fn string_at(s: &[u8], p: usize) -> Part
     ensures { λ r. ⌜ ofPart r ≡ on (readBasic (byPlace false) (text (fixed w16 never))) (now (s .entry)) p ⌝ }
 {
     part_moved(texts::string(parts::rest(s, p)), p)
+}
+
+// Data that may be null: null is shown as empty.
+pub fn records_at(s: &[u8], p: usize) -> Part
+    ensures { λ r. ⌜ ofPart r ≡ on (readBasic (byPlace false) (blob (fixed w32 empty))) (now (s .entry)) p ⌝ }
+{
+    part_moved(parts::records(parts::rest(s, p)), p)
 }
 
 fn start_moved(field: Field, p: usize) -> Field

@@ -2,7 +2,7 @@
 use mathlib.Core.List.{List, [], _∷_}
 use mathlib.Core.Path.{_∙_, _≡_, ap, ap₂, refl, sym}
 use Prim.Native.Nat.{_*_, _+_, _-_, _/_, _<_, _≤_, suc, zero, ℕ}
-use native.Mathlib.Nat.{div-eq-of-lt, div-eq-sub-div, mul-div-cancel}
+use native.Mathlib.Nat.{div-eq-of-lt, div-eq-sub-div, div-mul-le-self, mul-div-cancel, mul-le-mul-right}
 use native.Mathlib.Numerals.{add-one}
 use native.Mathlib.Omega.{arith}
 use lib.ListN.{drop, getD, length, length-drop, take}
@@ -29,6 +29,10 @@ chunk-at (suc n) w cs (suc i) h = chunk-at n w (drop w cs) i (omega arith) ∙ a
   where
     next : w + i * w ≡ suc i * w
     next = omega arith
+
+-- row i of a table of n cells ends inside it
+pub row-inside : (w n i : ℕ) → i < n / w → i * w + w ≤ n
+row-inside w n i h = omega (arith, mul-le-mul-right {m = i + 1} {n = n / w} w (omega arith), div-mul-le-self n w)
 
 -- the cells of row i stand from i · w on
 pub row-cell : (w : ℕ) (table : List ℕ) (i : ℕ) → i < length table / w → (j : ℕ) → j < w → getD (getD (rowsOf w table) i []) j 0 ≡ getD table (i * w + j) 0

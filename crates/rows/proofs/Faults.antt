@@ -11,6 +11,11 @@ unfolding or unless
 or-unless true b e = refl
 or-unless false b e = refl
 
+pub or-both : (a b : Bool) (e x : ℕ) → or (unless a (suc e)) (or (unless b (suc e)) x) ≡ or (unless (a && b) (suc e)) x
+unfolding or unless
+or-both true b e x = refl
+or-both false b e x = refl
+
 pub or-none : (a : ℕ) → or a 0 ≡ a
 unfolding or
 or-none zero = refl

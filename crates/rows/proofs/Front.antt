@@ -1,12 +1,12 @@
 -- The fields at the front of a row, read at once and stored at once; what stands behind them, an array or more, is read from there.
-use mathlib.Core.Bool.{Bool}
+use mathlib.Core.Bool.{Bool, false, true}
 use mathlib.Core.List.{List, [], _∷_}
 use mathlib.Core.Path.{_∙_, _≡_, ap, refl, sym}
 use Prim.Native.Nat.{_+_, ℕ}
 use native.Mathlib.Nat.{add-zero, zero-add}
 use lib.ListN.{drop}
 use Rattle.layout.specs.Reading.{Reader, Refusal, Res, bad, give, more, ok, pair, then}
-use Rattle.layout.specs.Rows.{Basic, BasicValue, Shape, Value, absent, array, end, field, lacking}
+use Rattle.layout.specs.Rows.{Basic, BasicValue, Shape, Value, absent, array, end, field, lacking, stands}
 use Rattle.layout.specs.Read.{byPlace, read, readBasic}
 use Rattle.layout.specs.Tables.{Span, absentCells, absentCount, cells, readRows}
 use Rattle.layout.proofs.Contents.{rowCells}
@@ -24,6 +24,18 @@ onto (field k l) r = field k (onto l r)
 onto (absent k l) r = absent k (onto l r)
 onto (array z t i l) r = array z t i (onto l r)
 onto (lacking z t i l) r = lacking z t i (onto l r)
+
+-- a field that a version may lack, in front of others
+module _ (k : Basic) where
+  pub stands-flat : (b : Bool) (l : Shape) → Flat l → Flat (stands b k l)
+  unfolding stands
+  stands-flat true l h = h
+  stands-flat false l h = h
+
+  pub stands-onto : (b : Bool) (l r : Shape) → onto (stands b k l) r ≡ stands b k (onto l r)
+  unfolding stands
+  stands-onto true l r = refl
+  stands-onto false l r = refl
 
 -- a value that is there already
 pub then-give : {A B : Type 0} (x : A) (f : A → Reader B) (p : ℕ) (s : List ℕ) → then (give x) f p s ≡ f x p s

@@ -15,6 +15,19 @@ unfolding all
 all-eq p q h [] = refl
 all-eq p q h (x ∷ xs) = ap₂ (λ (a b : Bool). a && b) (h x) (all-eq p q h xs)
 
+-- two tests of each
+pub all-both : {A : Type 0} (p q : A → Bool) → (xs : List A) → all (λ x. p x && q x) xs ≡ (all p xs && all q xs)
+unfolding all
+all-both p q [] = refl
+all-both p q (x ∷ xs) = ap (λ (b : Bool). (p x && q x) && b) (all-both p q xs) ∙ swap (p x) (q x) (all p xs) (all q xs)
+  where
+    swap : (a b c d : Bool) → ((a && b) && (c && d)) ≡ ((a && c) && (b && d))
+    swap true true true d = refl
+    swap true true false d = refl
+    swap true false true d = refl
+    swap true false false d = refl
+    swap false b c d = refl
+
 -- the first i rows of width w are good, and those left decide
 pub record Judged (p : List ℕ → Bool) (w : ℕ) (table : List ℕ) (i : ℕ) : Type 0 where
   pub below : i ≤ length table / w

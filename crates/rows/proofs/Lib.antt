@@ -19,8 +19,12 @@ pub mod Moves
 pub mod Flat
 -- the fields at the front of a row
 pub mod Front
+-- a row in two parts
+pub mod Joined
 -- a row's end and its arrays
 pub mod Arrays
+-- an array whose table stands beside that of the row
+pub mod Beside
 -- the same for walks, whose counts stop above the limit
 pub mod Capped
 -- the rows of a table
@@ -37,7 +41,10 @@ pub mod Times
 pub mod Faults
 -- a row read as its cells
 pub mod RowCells
--- a read that measures first
+-- a read that measures first, and room judged table by table
 pub mod Metered
+pub mod Rooms
 -- rows one by one: what they mean, the first fault, and bytes one behind the other
 pub mod Turns
+-- rows of one table that take rows of another
+pub mod Taking

@@ -1,6 +1,6 @@
 -- A loop of code over the items of an array: for every walk, whatever tables it fills.
 use mathlib.Core.List.{List}
-use mathlib.Core.Path.{_∙_, _≡_, refl, sym}
+use mathlib.Core.Path.{_∙_, _≡_, ap, refl, sym}
 use Prim.Native.Nat.{_-_, _<_, _≤_, ℕ}
 use Rattle.layout.specs.Reading.{Reader, Refusal, Res, bad, loop, ok}
 use Rattle.rows.specs.Store.{State}
@@ -25,3 +25,11 @@ module _ {E : Type 0} (x : E → State → Reader State) (s : List ℕ) (count a
 
       pub going-next : {q : ℕ} (b′ : E → State) → ((e : E) → f e ≡ ok (b′ e) q) → Going (n - 1) q b′
       going-next b′ g = record { same = λ e. loop-next (x e) s n p (b e) l (w .same e) (sym (g e) ∙ c .law e) }
+
+    -- one turn that told r: f says what an answer means, and r′ is the form that code saw it in
+    module _ (l : 0 < n) {R : Type 0} (f : R → E → Res State) (r r′ : R) (c : Runs x s p b (f r)) (d : r ≡ r′) where
+      pub turn-no : {a : Refusal} → ((e : E) → f r′ e ≡ bad a) → Runs (λ e. loop count (x e)) s at b₀ (λ e. bad a)
+      turn-no g = going-no l (f r) c (λ e. ap (λ y. f y e) d ∙ g e)
+
+      pub turn-next : {q : ℕ} (b′ : E → State) → ((e : E) → f r′ e ≡ ok (b′ e) q) → Going (n - 1) q b′
+      turn-next b′ g = going-next l (f r) c b′ (λ e. ap (λ y. f y e) d ∙ g e)

@@ -4,14 +4,14 @@ use mathlib.Core.Bool.{false, true}
 use mathlib.Core.List.{List, [], _∷_}
 use mathlib.Core.Option.{none, some}
 use mathlib.Core.Path.{_∙_, _≡_, ap, refl, subst, sym}
-use Prim.Native.Nat.{_≤_, suc, ℕ}
+use Prim.Native.Nat.{_<_, _≤_, suc, ℕ}
 use native.Mathlib.Omega.{arith}
-use lib.IntN.{ℤ, pos}
+use lib.IntN.{negsuc, pos, ℤ}
 use lib.ListN.{drop, getD, length, replicate}
-use Rattle.layout.specs.Reading.{Refusal, Res, bad, ok}
+use Rattle.layout.specs.Reading.{Refusal, Res, bad, because, ok}
 use Rattle.layout.specs.Tables.{Tables, append, readRows, rowWidth}
 use Rattle.layout.specs.Answers.{Answer, Message, accepted, most, readAnswer, refused, seen, shape, widths}
-use Rattle.layout.proofs.Calls.{Seen, read-refused, seen-inv, seen-prefix}
+use Rattle.layout.proofs.Calls.{Seen, read-refused, seen-inv, seen-prefix, too-long, version-above, version-below}
 use Rattle.layout.proofs.Local.{not-ok}
 use Rattle.layout.proofs.Proper.{proper}
 use Rattle.rows.specs.Meter.{lengths, metered}
@@ -50,6 +50,24 @@ module _ (m : Message) (h : proper m ≡ true) (few : slim m ≡ true) (v : ℕ)
       where
         go : Ended false (shape m v) s scratch cs u q → ok (cs, marks u) q ≡ metered (seen false m (pos v) s)
         go a = ap (λ (ms : List ℕ). ok (cs, ms) q) (a .marks-are) ∙ ap metered (sym (seen-prefix m v s (cs ∷ a .rows) q known size (sym (from-start m v s scratch many) ∙ a .is)))
+
+-- 1 and 2 come first; v is the version's number, as far as it has one
+module _ (m : Message) (z : ℤ) (s : List ℕ) (c : Refusal) where
+  pub metered-unknown : (v : ℕ) → ((n : ℕ) → z ≡ pos n → v ≡ n) → m .last < v → c ≡ because 1 0 → bad c ≡ metered (seen false m z s)
+  unfolding metered
+  metered-unknown v i h d = ap bad d ∙ ap metered (sym (go z i))
+    where
+      go : (z : ℤ) → ((n : ℕ) → z ≡ pos n → v ≡ n) → seen false m z s ≡ bad (because 1 0)
+      go (pos n) i = version-above false m n s (subst (λ (j : ℕ). m .last < j) (i n refl) h)
+      go (negsuc n) i = version-below false m n s
+
+  pub metered-long : (v : ℕ) → pos v ≡ z → v ≤ m .last → most < length s → c ≡ because 2 0 → bad c ≡ metered (seen false m z s)
+  unfolding metered
+  metered-long v i h l d = ap bad d ∙ ap metered (sym (too-long false m v s h l)) ∙ ap (λ (y : ℤ). metered (seen false m y s)) i
+
+-- of a version told in two ways
+pub metered-same : (m : Message) (s : List ℕ) (y z : ℤ) → y ≡ z → (o : Res (List ℕ × List ℕ)) → o ≡ metered (seen false m y s) → o ≡ metered (seen false m z s)
+metered-same m s y z i o d = d ∙ ap (λ (x : ℤ). metered (seen false m x s)) i
 
 -- ---- the reply, at any version
 

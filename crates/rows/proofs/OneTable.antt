@@ -10,13 +10,13 @@ use lib.ListN.{length}
 use Rattle.layout.specs.Reading.{Refusal, Res, bad, ok}
 use Rattle.layout.specs.Answers.{Message, accepted, most, prefixRead, refused, shape, widths}
 use Rattle.layout.proofs.Proper.{proper}
-use Rattle.layout.proofs.Tests.{le-false, le-true}
 use Rattle.rows.specs.Store.{State, Tab, add, own, store, tab}
 use Rattle.rows.specs.Walk.{Places, on, walk}
 use Rattle.rows.proofs.Bound.{slim}
 use Rattle.rows.proofs.Close.{slices}
 use Rattle.rows.specs.Meter.{short}
 use Rattle.rows.proofs.Reply.{answers-fits, answers-needs, answers-no}
+use Rattle.rows.proofs.Rooms.{short-here, short-next, short-none}
 
 -- the body's own row and the table
 pub alone-row : (x y : Tab) (cs : List ℕ) → add 0 cs (x ∷ y ∷ []) ≡ store x cs ∷ y ∷ []
@@ -38,12 +38,10 @@ nil (x ∷ t) e = absurd (omega (arith, e))
 -- rows of width w
 module _ (m : Message) (h : proper m ≡ true) (few : slim m ≡ true) (one : 1 ≡ m .tables) (w : ℕ) (wide : widths m ≡ w ∷ []) where
   short-some : (k n : ℕ) → n / w < k / w → short (widths m) (k ∷ []) (n ∷ []) ≡ some (k / w)
-  unfolding short
-  short-some k n l = rw (wide, le-false (k / w) (n / w) l)
+  short-some k n l = rw wide (short-here w [] k [] n [] l)
 
-  short-none : (k n : ℕ) → k / w ≤ n / w → short (widths m) (k ∷ []) (n ∷ []) ≡ none
-  unfolding short
-  short-none k n l = rw (wide, le-true (k / w) (n / w) l)
+  fits : (k n : ℕ) → k / w ≤ n / w → short (widths m) (k ∷ []) (n ∷ []) ≡ none
+  fits k n l = rw wide (short-next w [] k [] n [] l ∙ short-none [] [])
 
   module _ (v : ℕ) (known : v ≤ m .last) (s l : List ℕ) (size : length s ≤ most) (t₀ t₁ : List ℕ) (empty : length t₁ ≡ 0) where
     abbrev run : List ℕ → Res State
@@ -73,4 +71,4 @@ module _ (m : Message) (h : proper m ≡ true) (few : slim m ≡ true) (one : 1 
       pub one-took : k / w ≤ length (t₁ ++ l) / w → (l₂ : List ℕ) (z : Res State) → ((x : State) (n : ℕ) → z ≡ ok x n → slices x ≡ l₂ ∷ []) → z ≡ run (t₁ ++ l) → (accepted row q, l₂ ∷ []) ≡ prefixRead m (pos v) (l ∷ []) s
       unfolding prefixRead
       one-took i l₂ z f d =
-          answers-fits m h few false v known s size (l ∷ []) (t₀ ∷ []) one one row (tab t₁ k ∷ []) q first (may-leave q) (short-none k (length l) (subst (λ (t : List ℕ). k / w ≤ length t / w) (sym same) i)) z (d ∙ ap run (sym same)) (l₂ ∷ []) f
+          answers-fits m h few false v known s size (l ∷ []) (t₀ ∷ []) one one row (tab t₁ k ∷ []) q first (may-leave q) (fits k (length l) (subst (λ (t : List ℕ). k / w ≤ length t / w) (sym same) i)) z (d ∙ ap run (sym same)) (l₂ ∷ []) f

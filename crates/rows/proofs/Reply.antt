@@ -1,7 +1,7 @@
 -- The whole reply of a call, from what its measuring and its filling walk came to: for every proper message and any number of lent tables.
 use mathlib.Core.Bool.{Bool, cond, false, true}
 use mathlib.Core.List.{List, [], _++_, _∷_, map}
-use mathlib.Core.Option.{Option, none, some}
+use mathlib.Core.Option.{none, some}
 use mathlib.Core.Path.{_∙_, _≡_, ap, refl, subst, sym}
 use Prim.Native.Nat.{_*_, _+_, _/_, _<_, _≤_, suc, zero, ℕ}
 use native.Mathlib.Nat.{add-zero, div-mul-le-self, le-of-eq, le-trans, mul-le-mul-right, zero-add}
@@ -14,7 +14,7 @@ use borrow.Author.Tests.{ne-eqb}
 use Rattle.layout.specs.Reading.{Refusal, Res, bad, because, ok}
 use Rattle.layout.specs.Tables.{Tables, append, from, readRows, rowWidth}
 use Rattle.layout.specs.Answers as Answers
-use Rattle.layout.specs.Answers.{Message, accepted, laid, most, needed, readAnswer, refused, seen, shape, widths}
+use Rattle.layout.specs.Answers.{Message, accepted, laid, most, needed, prefixRead, readAnswer, refused, seen, shape, widths}
 use Rattle.layout.proofs.Calls.{Seen, need-is, read-answer, read-refused, seen-inv, tables-are, too-long, version-above, version-below}
 use Rattle.layout.proofs.Contents.{joined-length, rows-wide, rowsIn}
 use Rattle.layout.proofs.Proper.{owed, proper, width-same, widthAt}
@@ -134,6 +134,22 @@ module _ (m : Message) (w : Bool) (v : ℕ) (s : List ℕ) (olds : Tables) (c : 
 
   pub answers-long : c ≡ because 2 0 → v ≤ m .last → most < length s → (refused c, olds) ≡ readAnswer w m (pos v) olds s
   answers-long e h l = sym (read-refused m (pos v) s olds w c (too-long w m v s h l ∙ ap bad (sym e)))
+
+-- ---- versions
+
+-- what holds of 0 to 4, one by one
+pub up-to-four : (P : ℕ → Type 0) → P 0 → P 1 → P 2 → P 3 → P 4 → (v : ℕ) → v ≤ 4 → P v
+up-to-four P a b c d e zero h = a
+up-to-four P a b c d e (suc zero) h = b
+up-to-four P a b c d e (suc (suc zero)) h = c
+up-to-four P a b c d e (suc (suc (suc zero))) h = d
+up-to-four P a b c d e (suc (suc (suc (suc zero)))) h = e
+up-to-four P a b c d e (suc (suc (suc (suc (suc v))))) h = absurd (omega arith)
+
+-- two of one layout read alike
+pub one-layout : (m : Message) (a b : ℕ) → a ≤ m .last → b ≤ m .last → shape m a ≡ shape m b → (olds : Tables) (s : List ℕ) → prefixRead m (pos a) olds s ≡ prefixRead m (pos b) olds s
+unfolding prefixRead readAnswer seen
+one-layout m a b h k e olds s = rw (le-true a (m .last) h, le-true b (m .last) k, e)
 
 -- ---- one walk, run twice: over scratch to measure, and over the lent tables to fill
 

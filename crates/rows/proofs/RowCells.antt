@@ -12,12 +12,12 @@ use Rattle.layout.specs.Tables.{Span, absentCells, absentCount, cells, readRows
 use Rattle.layout.proofs.Contents.{rowCells}
 use Rattle.layout.proofs.Link.{keep, link}
 use Rattle.layout.proofs.Local.{not-ok}
-use Rattle.layout.proofs.Maps.{over}
+use Rattle.layout.proofs.Maps.{over, then-assoc}
 use Rattle.rows.specs.Store.{State, add}
 use Rattle.rows.specs.Walk.{on, rowFrom, walk}
 use Rattle.rows.proofs.Flat as Flat
 use Rattle.rows.proofs.Flat.{Flat, keep-flat}
-use Rattle.rows.proofs.Front.{front-no, front-took, onto}
+use Rattle.rows.proofs.Front.{front-no, front-took, onto, then-give}
 use Rattle.rows.proofs.Steps.{give-took, then-no, then-took}
 
 -- ---- field by field
@@ -38,6 +38,29 @@ module _ (ds : List ℕ) (k : Basic) (r : Shape) (s : List ℕ) (p : ℕ) where
 pub cells-end : (ds s : List ℕ) (p : ℕ) → ok ds p ≡ on (rowFrom ds end) s p
 unfolding rowFrom readRows
 cells-end ds s p = give-took ds s p
+
+-- ---- in two parts, the second from where the first ended
+
+parted : (l : Shape) → Flat l → (r : Shape) (ds : List ℕ) (p : ℕ) (s : List ℕ) → rowFrom ds (onto l r) p s ≡ then (rowFrom ds l) (λ es. rowFrom es r) p s
+unfolding rowFrom readRows
+parted end h r ds p s = sym (then-give ds (λ es. rowFrom es r) p s)
+parted (field k l) h r ds p s =
+    (λ i. then (readBasic (byPlace false) k) (λ x q t. parted l h r (ds ++ cells k x) q t i) p s)
+    ∙ then-assoc (readBasic (byPlace false) k) (λ x. rowFrom (ds ++ cells k x) l) (λ es. rowFrom es r) p s
+parted (absent k l) h r ds p s = parted l h r (ds ++ absentCells k) p s
+parted (array z t i l) h r ds p s = absurd h
+parted (lacking z t i l) h r ds p s = parted l h r (ds ++ (absentCount z ∷ [])) p s
+
+module _ (l : Shape) (h : Flat l) (r : Shape) (ds s : List ℕ) (p : ℕ) where
+  on-parts : on (then (rowFrom ds l) (λ es. rowFrom es r)) s p ≡ on (rowFrom ds (onto l r)) s p
+  unfolding on
+  on-parts = ap (more p) (sym (parted l h r ds p (drop p s)))
+
+  pub first-no : (c : Refusal) → bad c ≡ on (rowFrom ds l) s p → bad c ≡ on (rowFrom ds (onto l r)) s p
+  first-no c e = then-no (rowFrom ds l) (λ es. rowFrom es r) s p e ∙ on-parts
+
+  pub first-took : (cs : List ℕ) (q : ℕ) → ok cs q ≡ on (rowFrom ds l) s p → (z : Res (List ℕ)) → z ≡ on (rowFrom cs r) s q → z ≡ on (rowFrom ds (onto l r)) s p
+  first-took cs q e z d = then-took (rowFrom ds l) (λ es. rowFrom es r) s p e d ∙ on-parts
 
 -- ---- as the front of a walk
 

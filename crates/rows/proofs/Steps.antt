@@ -7,6 +7,7 @@ use native.Mathlib.Omega.{arith}
 use lib.ListN.{drop}
 use lib.Seq.{drop-drop}
 use Rattle.layout.specs.Reading.{Reader, Refusal, Res, bad, give, loop, more, next, ok, then}
+use Rattle.layout.proofs.Local.{not-ok}
 use Rattle.layout.proofs.Maps.{more-more}
 use Rattle.rows.specs.Walk.{on}
 
@@ -41,6 +42,32 @@ module _ {A B : Type 0} (r : Reader A) (f : A → Reader B) (s : List ℕ) (p : 
 pub give-took : {A : Type 0} (x : A) (s : List ℕ) (p : ℕ) → ok x p ≡ on (give x) s p
 unfolding on give
 give-took x s p = ap (λ (k : ℕ). ok x k) (sym (add-zero p))
+
+-- ---- what a chain of two readers gave, each gave
+
+module _ {A B : Type 0} (r : Reader A) (f : A → Reader B) (s : List ℕ) (p : ℕ) where
+  pub record Both (z : B) (q : ℕ) : Type 0 where
+    pub x : A
+    pub u : ℕ
+    pub first : ok x u ≡ on r s p
+    pub second : ok z q ≡ on (f x) s u
+
+  pub both : (z : B) (q : ℕ) → ok z q ≡ on (then r f) s p → Both z q
+  both z q e = go (on r s p) refl
+    where
+      go : (o : Res A) → on r s p ≡ o → Both z q
+      go (ok x u) d = record { x = x; u = u; first = sym d; second = e ∙ sym (then-took r f s p {x = x} {q = u} (sym d) refl) }
+      go (bad c) d = not-ok (then-no r f s p {c = c} (sym d) ∙ sym e)
+
+-- a value and its end are told apart
+pub same-value : {A : Type 0} {x y : A} {n m : ℕ} → _≡_ {A = Res A} (ok x n) (ok y m) → x ≡ y
+same-value e = cc
+
+pub same-end : {A : Type 0} {x y : A} {n m : ℕ} → _≡_ {A = Res A} (ok x n) (ok y m) → n ≡ m
+same-end e = cc
+
+pub same-refusal : {A : Type 0} {c d : Refusal} → _≡_ {A = Res A} (bad c) (bad d) → c ≡ d
+same-refusal e = cc
 
 -- ---- a loop: what is left from here is what was asked at the start
 

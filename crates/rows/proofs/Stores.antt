@@ -36,6 +36,9 @@ pub store-out : (l : List ℕ) (k c n : ℕ) → n ≡ step k → length l ≤ k
 unfolding store put
 store-out l k c n e h = λ i. tab (sym (set-out l k c h) i) (e i)
 
--- a cell, and then the others
+-- some cells, and then others; a cell, and then others
+pub store-both : (x y z : Tab) (cs ds : List ℕ) → y ≡ store x cs → z ≡ store y ds → z ≡ store x (cs ++ ds)
+store-both x y z cs ds e g = g ∙ ap (λ t. store t ds) e ∙ store-append x cs ds
+
 pub store-next : (x y z : Tab) (c : ℕ) (cs : List ℕ) → y ≡ store x (c ∷ []) → z ≡ store y cs → z ≡ store x (c ∷ cs)
-store-next x y z c cs e g = g ∙ ap (λ t. store t cs) e ∙ store-append x (c ∷ []) cs
+store-next x y z c cs e g = store-both x y z (c ∷ []) cs e g

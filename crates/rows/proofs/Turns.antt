@@ -15,12 +15,13 @@ use Rattle.rows.specs.Step.{Capped, cap}
 use Rattle.rows.proofs.Capped.{capped-all, capped-next, capped-none}
 use Rattle.rows.proofs.Chunks.{rows-many}
 
-or-first : (a b e : ℕ) → e ≡ a → e ≢ 0 → e ≡ or a b
+-- the first of two faults, and the second where the first is none
+pub or-first : (a b e : ℕ) → e ≡ a → e ≢ 0 → e ≡ or a b
 unfolding or
 or-first zero b e i h = absurd (h i)
 or-first (suc a) b e i h = i
 
-or-second : (a b e : ℕ) → e ≡ a → e ≡ 0 → b ≡ or a b
+pub or-second : (a b e : ℕ) → e ≡ a → e ≡ 0 → b ≡ or a b
 unfolding or
 or-second zero b e i h = refl
 or-second (suc a) b e i h = absurd (omega arith)

@@ -8,7 +8,7 @@ use Rattle.layout.specs.Reading.{Reader, Res, give, more, then}
 use Rattle.layout.specs.Primitives.{Size, admits, checked, lengthOf, refusal, unsigned}
 use Rattle.layout.specs.Rows.{Shape}
 use Rattle.layout.specs.Tables.{readRows}
-use Rattle.rows.specs.Store.{State, Tab, add, store}
+use Rattle.rows.specs.Store.{State, Tab, add, store, tab}
 
 -- a reader at place p of the message s; what it used counts from the message's start
 unfoldable pub on : {A : Type 0} → Reader A → List ℕ → ℕ → Res A
@@ -35,6 +35,13 @@ pub record Places : Type 0 where
   pub t : ℕ
   pub row-law : (x y : Tab) (cs : List ℕ) → add o cs (h x y) ≡ h (store x cs) y
   pub items-law : (x y : Tab) (cs : List ℕ) → add t cs (h x y) ≡ h x (store y cs)
+
+-- a table in its place; and a table of items beside that of the row so far
+abbrev pub inPlace : List ℕ → ℕ → Place → State
+inPlace l k e = e .h (tab l k)
+
+abbrev pub beside : List ℕ → ℕ → Places × Tab → State
+beside l k e = e .0 .h (e .1) (tab l k)
 
 -- Run from b at p, the walk comes to f. e is what the walk does not touch, the other tables or where its own stand among them: it may be anything
 pub record Runs {E : Type 0} (x : E → State → Reader State) (s : List ℕ) (p : ℕ) (b : E → State) (f : E → Res State) : Type 0 where

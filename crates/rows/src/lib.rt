@@ -47,3 +47,21 @@ pub fn store5(table: &mut [u64], mark: usize, a: u64, b: u64, c: u64, d: u64, e:
     let second = store(table, mark, a);
     store4(table, second, b, c, d, e)
 }
+
+// A row of seven cells.
+pub fn store7(
+    table: &mut [u64],
+    mark: usize,
+    a: u64,
+    b: u64,
+    c: u64,
+    d: u64,
+    e: u64,
+    f: u64,
+    g: u64,
+) -> usize
+    ensures { λ r. ⌜ tab (now (table .exit)) r ≡ store (tab (now (table .entry)) mark) (a ∷ b ∷ c ∷ d ∷ e ∷ f ∷ g ∷ []) ⌝ }
+{
+    let fifth = store4(table, mark, a, b, c, d);
+    store3(table, fifth, e, f, g)
+}

@@ -1,8 +1,6 @@
 -- data behind its length, and a tag's row
 pub mod Data
 pub mod Rows
--- a turn of the loop
-pub mod Turns
 -- the number of tags and the tags
 pub mod Count
 -- the whole reply

@@ -6,7 +6,7 @@ use Prim.Native.Nat.{_+_, _/_, _<_, _^_, ℕ}
 use native.Mathlib.Omega.{arith}
 use lib.Dec.{eqb, lit<}
 use lib.IntN.{pos}
-use lib.ListN.{getD, length}
+use lib.ListN.{length}
 use Rattle.layout.specs.Answers.{body, limited, made, meant, offered, shape, stored, tagsAlone, writeAnswer}
 use Rattle.layout.specs.Primitives.{plain}
 use Rattle.layout.specs.Reading.{because, bad, ok}
@@ -17,8 +17,10 @@ use Rattle.layout.proofs.Sums.{sum-zero}
 use Rattle.layout.proofs.Tests.{of-eq}
 use Rattle.rows.proofs.Chunks.{rows-many}
 use Rattle.rows.proofs.Judged.{all-eq}
-use Rattle.tags_written.proofs.Meaning.{Cells, meaning, tag, tag-good, tags-bytes, tags-clean, tags-value}
-use Rattle.tags_written.specs.Tags.{allRanged, ranged, tagsBytes, tagsGood}
+use Rattle.tags_written.proofs.Meaning.{meaning, tag, tag-good, tags-bytes, tags-clean, tags-value}
+use Rattle.ranges.specs.Asked.{allRanged, ranged}
+use Rattle.ranges.proofs.Cells.{Cells}
+use Rattle.tags_written.specs.Tags.{tagsBytes, tagsGood}
 
 abbrev tags : Shape
 tags = array plain 1 tag end
@@ -29,7 +31,7 @@ is-tags = refl
 
 -- ---- 13
 
-row-good : (size : ℕ) (r : List ℕ) → goodRow size tag r ≡ ranged size r
+row-good : (size : ℕ) (r : List ℕ) → goodRow size tag r ≡ ranged 1 size r
 unfolding goodRow goodCells width
 row-good size r = tag-good size r
 
@@ -40,15 +42,15 @@ asks-none r = refl
 module _ (size c : ℕ) (table : List ℕ) where
   is-good : good size 1 tags ((c ∷ []) ∷ table ∷ []) ≡ tagsGood size c table
   unfolding good tagsGood allRanged addsUp all from sum rowsAt kindOf kindIn arrays asked goodRow rowWidth width
-  is-good = rw (and-true (goodCount true c), and-true (all (goodRow size tag) (rowsOf 3 table)), all-eq (goodRow size tag) (ranged size) (row-good size) (rowsOf 3 table), sum-zero (asked 1 tag) asks-none (rowsOf 3 table), rows-many 3 table)
-      (ap (λ (b : Bool). goodCount true c && (all (ranged size) (rowsOf 3 table) && b)) (and-true _ ∙ ap (λ (n : ℕ). eqb n (length table / 3)) no-more))
+  is-good = rw (and-true (goodCount true c), and-true (all (goodRow size tag) (rowsOf 3 table)), all-eq (goodRow size tag) (ranged 1 size) (row-good size) (rowsOf 3 table), sum-zero (asked 1 tag) asks-none (rowsOf 3 table), rows-many 3 table)
+      (ap (λ (b : Bool). goodCount true c && (all (ranged 1 size) (rowsOf 3 table) && b)) (and-true _ ∙ ap (λ (n : ℕ). eqb n (length table / 3)) no-more))
     where
       no-more : count c + 0 + (0 + 0) ≡ count c
       no-more = omega arith
 
   good-count : tagsGood size c table ≡ true → count c ≡ length table / 3
   unfolding tagsGood
-  good-count e = of-eq (count c) (length table / 3) (second (allRanged size table) _ (second (goodCount true c) _ e))
+  good-count e = of-eq (count c) (length table / 3) (second (allRanged 3 1 size table) _ (second (goodCount true c) _ e))
     where
       second : (a b : Bool) → (a && b) ≡ true → b ≡ true
       second true b e = e

@@ -15,23 +15,18 @@ use Rattle.layout.proofs.Tests.{lt-true}
 use Rattle.rows.proofs.Chunks.{chunks-many, rows-many}
 use Rattle.rows.proofs.Turns.{each-map, times-rows}
 use Rattle.put.specs.Put.{behindLength}
-use Rattle.tags_written.specs.Tags.{ranged, rowBytes, rowsBytes, tagBytes, tagsBytes}
+use Rattle.ranges.specs.Asked.{ranged}
+use Rattle.ranges.proofs.Cells.{Cells, cells-drop}
+use Rattle.tags_written.specs.Tags.{rowBytes, rowsBytes, tagBytes, tagsBytes}
 
 -- a row of tags, where the version has them
 abbrev pub tag : Shape
 tag = field natural (field (blob plain) end)
 
 -- a row is good where its data are inside; it is so at versions that lack tags too
-pub tag-good : (size : ℕ) (r : List ℕ) → (goodSpan size false (drop 1 r) && true) ≡ ranged size r
+pub tag-good : (size : ℕ) (r : List ℕ) → (goodSpan size false (drop 1 r) && true) ≡ ranged 1 size r
 unfolding goodSpan ranged
 tag-good size r = and-true _ ∙ ap₂ (inside size) (getD-drop 1 r 0 0) (getD-drop 1 r 1 0)
-
--- every cell is below 2^64
-abbrev pub Cells : List ℕ → Type 0
-Cells cs = (i : ℕ) → getD cs i 0 < 2 ^ 64
-
-pub cells-drop : (k : ℕ) (cs : List ℕ) → Cells cs → Cells (drop k cs)
-cells-drop k cs h i = omega (arith, getD-drop k cs i 0, h (k + i))
 
 module _ (lent : List ℕ) where
   -- the value of a row

@@ -4,12 +4,12 @@ use mathlib.Core.List.{List, [], _∷_}
 use mathlib.Core.Path.{_∙_, _≡_, sym}
 use Prim.Native.Nat.{_<_, _^_, ℕ}
 use lib.IntN.{pos}
-use lib.ListN.{getD, length}
+use lib.ListN.{length}
 use Rattle.layout.specs.Answers.{Answer, refused, tagsAlone, writeAlone, writeAnswer}
 use Rattle.layout.specs.Reading.{Refusal, because}
 use Rattle.tags_written.specs.Tags.{tagsBytes, tagsGood}
 use Rattle.tags_written.proofs.Alone.{tags-alone}
-use Rattle.tags_written.proofs.Meaning.{Cells}
+use Rattle.ranges.proofs.Cells.{Cells}
 
 module _ (lent table : List ℕ) (c : ℕ) (out : List ℕ) (f : Cells table) (t : length table < 2 ^ 64) (l : length lent < 2 ^ 64) where
   pub told-bad : (e : Refusal) → e ≡ because 13 0 → tagsGood (length lent) c table ≡ false → _≡_ {A = Answer × List ℕ} (refused e, out) (writeAnswer tagsAlone (pos 0) lent ((c ∷ []) ∷ table ∷ []) out)

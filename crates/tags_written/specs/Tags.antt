@@ -5,9 +5,10 @@ use Prim.Native.Nat.{_/_, ℕ}
 use lib.Dec.{eqb}
 use lib.ListN.{getD, length}
 use Rattle.layout.specs.Primitives.{plain, unsignedBytes}
-use Rattle.layout.specs.Tables.{all, count, goodCount, inside, rowsOf, slice}
+use Rattle.layout.specs.Tables.{count, goodCount, rowsOf, slice}
 use Rattle.layout.specs.Write.{each}
 use Rattle.put.specs.Put.{behindLength}
+use Rattle.ranges.specs.Asked.{allRanged}
 
 -- a tag, and n bytes of the lent ones from `start` on behind their length
 unfoldable pub tagBytes : List ℕ → ℕ → ℕ → ℕ → List ℕ
@@ -22,13 +23,6 @@ rowsBytes lent table = each (rowBytes lent) (rowsOf 3 table)
 unfoldable pub tagsBytes : List ℕ → List ℕ → List ℕ
 tagsBytes lent table = unsignedBytes (length table / 3) ++ rowsBytes lent table
 
--- the row's data are inside the lent bytes, `size` in all
-unfoldable pub ranged : ℕ → List ℕ → Bool
-ranged size r = inside size (getD r 1 0) (getD r 2 0)
-
-unfoldable pub allRanged : ℕ → List ℕ → Bool
-allRanged size table = all (ranged size) (rowsOf 3 table)
-
 -- 13 is not given: c is the count
 unfoldable pub tagsGood : ℕ → ℕ → List ℕ → Bool
-tagsGood size c table = goodCount true c && (allRanged size table && eqb (count c) (length table / 3))
+tagsGood size c table = goodCount true c && (allRanged 3 1 size table && eqb (count c) (length table / 3))

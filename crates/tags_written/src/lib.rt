@@ -7,55 +7,23 @@ ghost use lib.ListN.{getD, length};
 ghost use Prim.Native.Nat.{_/_, _<_};
 ghost use Rattle.layout.specs.Answers.{tagsAlone, writeAnswer};
 ghost use Rattle.layout.specs.Primitives.{plain};
-ghost use Rattle.layout.specs.Tables.{count, inside, rowsOf, slice};
+ghost use Rattle.layout.specs.Tables.{rowsOf};
 ghost use Rattle.rows.specs.Step.{Capped, Step};
 ghost use Rattle.put.specs.Put.{behindLength};
 ghost use Rattle.writers.specs.Answers.{replied};
-ghost use Rattle.tags_written.specs.Tags.{allRanged, rowBytes, rowsBytes, tagBytes, tagsBytes, tagsGood};
+ghost use Rattle.tags_written.specs.Tags.{rowBytes, rowsBytes, tagBytes, tagsBytes, tagsGood};
 use primitives::BAD_TABLES;
 use primitives::MOST;
 use primitives::TOO_LONG;
 use primitives::at;
 use primitives::no_room;
+use ranges::Row;
+use ranges::all_ranged;
+use ranges::part;
+use ranges::rows_told;
 use writers::Written;
 
 // ---- 13
-
-// Are n bytes from `start` on inside so many? No sum, which could wrap.
-pub fn is_inside(size: usize, start: u64, n: u64) -> bool
-    ensures { λ r. ⌜ r ≡ inside size start n ⌝ }
-{
-    let all = size as u64;
-    if all < start {
-        return false;
-    }
-    n <= all - start
-}
-
-// Are the data of all rows inside?
-pub fn all_ranged(size: usize, table: &[u64]) -> bool
-    ensures { λ r. ⌜ r ≡ allRanged size (now (table .entry)) ⌝ }
-{
-    let n = table.len() / 3;
-    let mut i: usize = 0;
-    while i < n {
-        if !is_inside(size, table[i * 3 + 1], table[i * 3 + 2]) {
-            return false;
-        }
-        i = i + 1;
-    }
-    true
-}
-
-// The rows that a count tells: the cell of -1, for unset, tells none.
-pub fn rows_told(c: u64) -> u64
-    ensures { λ r. ⌜ r ≡ count c ⌝ }
-{
-    if c == 18446744073709551615 {
-        return 0;
-    }
-    c
-}
 
 // The table has the rows that the count tells, and all data are inside.
 pub fn is_good(size: usize, count: u64, table: &[u64]) -> bool
@@ -64,24 +32,10 @@ pub fn is_good(size: usize, count: u64, table: &[u64]) -> bool
     if rows_told(count) != (table.len() / 3) as u64 {
         return false;
     }
-    all_ranged(size, table)
+    all_ranged(size, table, Row::Tag)
 }
 
 // ---- the walk
-
-// n bytes of the lent ones from `start` on; those past the end are not there.
-pub fn part(lent: &[u8], start: u64, n: u64) -> &[u8]
-    ensures { λ r. ⌜ now r ≡ slice (now (lent .entry)) (start, n) ⌝ }
-{
-    if (lent.len() as u64) < start {
-        return &lent[lent.len()..];
-    }
-    let from = start as usize;
-    if ((lent.len() - from) as u64) < n {
-        return &lent[from..];
-    }
-    &lent[from..from + n as usize]
-}
 
 // Data behind their length.
 fn put_data(out: &mut [u8], content: &[u8]) -> usize

@@ -13,20 +13,17 @@ use Rattle.fields.specs.Answers.{counted}
 use Rattle.primitives.specs.Answers.{ofRefusal}
 use Rattle.primitives.specs.declared.Refusal as Code
 use Rattle.rows.specs.Store.{State, Tab, add, store, tab}
-use Rattle.rows.specs.Walk.{Place, Places, Runs, on, walk}
+use Rattle.rows.specs.Walk.{Places, Runs, beside, inPlace, on, walk}
 use Rattle.rows.proofs.Arrays.{array-no, array-no-count, array-took, row-end}
+use Rattle.rows.proofs.Beside.{behindCount, items-beside}
 use Rattle.rows.proofs.Steps.{give-took}
 use Rattle.topics.specs.Shapes.{nodeShape, nodesShape}
-use Rattle.topics.specs.Walks.{beside, besideIs, inNodes, nodesIs}
-use Rattle.topics.specs.declared.nodes.Counted.{Counted}
-use Rattle.topics.specs.declared.nodes.Nodes.{Nodes}
+use Rattle.walks.specs.Answers.{besideIs, filledIs}
+use Rattle.walks.specs.declared.Counted.{Counted}
+use Rattle.walks.specs.declared.Filled.{Filled}
 
 abbrev nullable : Size
 nullable = fixed w32 kept
-
--- the table of nodes, where the row has their number
-behind : Places → Tab → ℕ → Place
-behind w x n = record { h = λ y. w .h (store x (n ∷ [])) y; o = w .t; law = λ y cs. w .items-law (store x (n ∷ [])) y cs }
 
 -- one more than a number is not the null
 some-count : (n : ℕ) → n ≡ countCell true (n + 1)
@@ -49,24 +46,22 @@ module _ (s : List ℕ) (p : ℕ) (l : List ℕ) (k : ℕ) where
         ∙ array-took false nullable (e .0 .t) nodeShape end (e .0 .o) (beside l k e) s p 0 q h (nulled e) q (ok (nulled e) q) (give-took (nulled e) s q) (row-end false (e .0 .o) (nulled e) s q);
   }
 
-  module _ (n q : ℕ) (d : ok (n + 1) q ≡ on (counted nullable) s p) (l′ : List ℕ) (r : Nodes) (h : Runs (λ e. loop n (walk false nodeShape (e .o))) s q (inNodes l k) (nodesIs l′ r)) where
+  module _ (n q : ℕ) (d : ok (n + 1) q ≡ on (counted nullable) s p) (l′ : List ℕ) (r : Filled) (h : Runs (λ e. loop n (walk false nodeShape (e .o))) s q (inPlace l k) (filledIs l′ r)) where
     abbrev stored : ℕ → Places × Tab → State
     stored j e = e .0 .h (store (e .1) (n ∷ [])) (tab l′ j)
 
-    looped : (e : Places × Tab) → nodesIs l′ r (behind (e .0) (e .1) n) ≡ on (loop (n + 1 - 1) (walk false nodeShape (e .0 .t)) (add (e .0 .o) (countCell true (n + 1) ∷ []) (beside l k e))) s q
-    unfolding behind
-    looped e =
+    looped : (y : Filled) → r ≡ y → (e : Places × Tab) → filledIs l′ y (behindCount (e .0) (e .1) n) ≡ on (loop (n + 1 - 1) (walk false nodeShape (e .0 .t)) (add (e .0 .o) (countCell true (n + 1) ∷ []) (beside l k e))) s q
+    looped y w e =
         let m : n ≡ n + 1 - 1 = omega arith in
-        h .law (behind (e .0) (e .1) n)
-        ∙ ap (λ (y : State). on (loop n (walk false nodeShape (e .0 .t)) y) s q) (sym (e .0 .row-law (e .1) (tab l k) (n ∷ [])))
+        items-beside nodeShape s q l k n n (filledIs l′) r y h w e
         ∙ (λ i. on (loop (m i) (walk false nodeShape (e .0 .t)) (add (e .0 .o) (some-count n i ∷ []) (beside l k e))) s q)
 
-    pub nodes-at-no : (c : Code.Refusal) → r ≡ Nodes.Refused c → Runs (λ e. walk false (nodesShape (e .0 .t)) (e .0 .o)) s p (beside l k) (besideIs l′ (Counted.Refused c))
+    pub nodes-at-no : (c : Code.Refusal) → r ≡ Filled.Refused c → Runs (λ e. walk false (nodesShape (e .0 .t)) (e .0 .o)) s p (beside l k) (besideIs l′ (Counted.Refused c))
     unfolding counted nodesShape
-    nodes-at-no c i = record { law = λ e. array-no false nullable (e .0 .t) nodeShape end (e .0 .o) (beside l k e) s p (n + 1) q d (ofRefusal c) (ap (λ y. nodesIs l′ y (behind (e .0) (e .1) n)) (sym i) ∙ looped e) }
+    nodes-at-no c i = record { law = λ e. array-no false nullable (e .0 .t) nodeShape end (e .0 .o) (beside l k e) s p (n + 1) q d (ofRefusal c) (looped (Filled.Refused c) i e) }
 
-    pub nodes-at-took : (u j : ℕ) → r ≡ Nodes.Took u j → Runs (λ e. walk false (nodesShape (e .0 .t)) (e .0 .o)) s p (beside l k) (besideIs l′ (Counted.Took n u j))
-    unfolding counted nodesShape behind
+    pub nodes-at-took : (u j : ℕ) → r ≡ Filled.Took u j → Runs (λ e. walk false (nodesShape (e .0 .t)) (e .0 .o)) s p (beside l k) (besideIs l′ (Counted.Took n u j))
+    unfolding counted nodesShape behindCount
     nodes-at-took u j i = record {
-      law = λ e. array-took false nullable (e .0 .t) nodeShape end (e .0 .o) (beside l k e) s p (n + 1) q d (stored j e) u (ok (stored j e) u) (ap (λ y. nodesIs l′ y (behind (e .0) (e .1) n)) (sym i) ∙ looped e) (row-end false (e .0 .o) (stored j e) s u);
+      law = λ e. array-took false nullable (e .0 .t) nodeShape end (e .0 .o) (beside l k e) s p (n + 1) q d (stored j e) u (ok (stored j e) u) (looped (Filled.Took u j) i e) (row-end false (e .0 .o) (stored j e) s u);
     }

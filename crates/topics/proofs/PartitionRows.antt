@@ -9,16 +9,17 @@ use Rattle.layout.specs.Rows.{Shape, array, end}
 use Rattle.primitives.specs.Answers.{ofRefusal}
 use Rattle.primitives.specs.declared.Refusal.{Refusal}
 use Rattle.rows.specs.Store.{State, Tab, add, store, tab}
-use Rattle.rows.specs.Walk.{Places, Runs, on, rowFrom, walk}
+use Rattle.rows.specs.Walk.{Places, Runs, beside, on, rowFrom, walk}
+use Rattle.rows.proofs.Joined.{joined-no, joined-took}
 use Rattle.rows.proofs.RowCells.{row-no, row-took}
 use Rattle.rows.proofs.Stores.{store-append}
 use Rattle.topics.specs.Shapes.{nodeShape, nodesShape, partitionFront, partitionShape}
-use Rattle.topics.specs.Walks.{Before, beside, besideIs, inPartitions, ofPartitionRow, partitionsIs}
+use Rattle.topics.specs.Walks.{Before, inPartitions, ofPartitionRow, partitionsIs}
+use Rattle.walks.specs.Answers.{besideIs}
 use Rattle.topics.specs.declared.Marked.{Marked}
 use Rattle.topics.specs.declared.Marks.{Marks}
-use Rattle.topics.specs.declared.nodes.Counted.{Counted}
+use Rattle.walks.specs.declared.Counted.{Counted}
 use Rattle.topics.specs.declared.partitions.PartitionRow.{PartitionRow}
-use Rattle.topics.proofs.Joined.{joined-no, joined-took}
 
 -- behind the numbers: replicas, and in-sync replicas
 abbrev arrays : Shape

@@ -3,32 +3,11 @@ use mathlib.Core.List.{List, [], _∷_}
 use Prim.Native.Nat.{ℕ}
 use Rattle.layout.specs.Reading.{Res, bad, ok}
 use Rattle.primitives.specs.Answers.{ofRefusal}
-use Rattle.rows.specs.Store.{State, Tab, store, tab}
-use Rattle.rows.specs.Walk.{Place, Places}
+use Rattle.rows.specs.Store.{State, Tab, tab}
 use Rattle.topics.specs.declared.Marked.{Marked}
 use Rattle.topics.specs.declared.Marks.{Marks}
-use Rattle.topics.specs.declared.nodes.Counted.{Counted}
-use Rattle.topics.specs.declared.nodes.Nodes.{Nodes}
 use Rattle.topics.specs.declared.partitions.PartitionRow.{PartitionRow}
 use Rattle.topics.specs.declared.topic.TopicRow.{TopicRow}
-
--- ---- nodes, wherever their table stands among the others
-
-abbrev pub inNodes : List ℕ → ℕ → Place → State
-inNodes l k e = e .h (tab l k)
-
-abbrev pub nodesIs : List ℕ → Nodes → Place → Res State
-nodesIs l (Nodes.Took n k) e = ok (inNodes l k e) n
-nodesIs l (Nodes.Refused c) e = bad (ofRefusal c)
-
--- the table of the row so far, and that of its nodes
-abbrev pub beside : List ℕ → ℕ → Places × Tab → State
-beside l k e = e .0 .h (e .1) (tab l k)
-
--- the row has the number of nodes
-abbrev pub besideIs : List ℕ → Counted → Places × Tab → Res State
-besideIs l (Counted.Took c n k) e = ok (e .0 .h (store (e .1) (c ∷ [])) (tab l k)) n
-besideIs l (Counted.Refused c) e = bad (ofRefusal c)
 
 -- ---- partitions and topics: the tables in front may be anything
 

@@ -1,38 +1,23 @@
 // Arrays of nodes: replicas, and in-sync replicas. A null one stays null: its count is the cell of -1.
 ghost use mathlib.Core.Bool.{false};
 ghost use Rattle.layout.specs.Reading.{loop};
-ghost use Rattle.rows.specs.Walk.{Runs, walk};
+ghost use Rattle.rows.specs.Walk.{Runs, beside, inPlace, walk};
 ghost use Rattle.topics.specs.Shapes.{nodeShape, nodesShape};
-ghost use Rattle.topics.specs.Walks.{beside, besideIs, inNodes, nodesIs};
+ghost use Rattle.walks.specs.Answers.{besideIs, filledIs};
 use fields::Count;
 use places::count_at;
 use places::int32_at;
 use primitives::Number;
-use primitives::Refusal;
 use rows::store;
+use walks::Counted;
+use walks::Filled;
 
 // The cell of -1: null.
 const NULL: u64 = 18446744073709551615;
 
-// The place behind some nodes, and their table's mark.
-pub(crate) enum Nodes {
-    Took { next: usize, mark: usize },
-    Refused(Refusal),
-}
-
-// The cell of an array's count, the place behind the array, and the mark of its table.
-pub(crate) enum Counted {
-    Took {
-        count: u64,
-        next: usize,
-        mark: usize,
-    },
-    Refused(Refusal),
-}
-
 // `count` nodes from place p on.
-fn nodes_in(s: &[u8], p: usize, count: u64, table: &mut [u64], mark: usize) -> Nodes
-    ensures { λ r. ⌜ Runs (λ e. loop count (walk false nodeShape (e .o))) (now (s .entry)) p (inNodes (now (table .entry)) mark) (nodesIs (now (table .exit)) r) ⌝ }
+fn nodes_in(s: &[u8], p: usize, count: u64, table: &mut [u64], mark: usize) -> Filled
+    ensures { λ r. ⌜ Runs (λ e. loop count (walk false nodeShape (e .o))) (now (s .entry)) p (inPlace (now (table .entry)) mark) (filledIs (now (table .exit)) r) ⌝ }
 {
     let mut left = count;
     let mut place = p;
@@ -45,11 +30,11 @@ fn nodes_in(s: &[u8], p: usize, count: u64, table: &mut [u64], mark: usize) -> N
                 left = left - 1;
             }
             Number::Refused(e) => {
-                return Nodes::Refused(e);
+                return Filled::Refused(e);
             }
         }
     }
-    Nodes::Took {
+    Filled::Took {
         next: place,
         mark: behind,
     }
@@ -61,12 +46,12 @@ pub(crate) fn nodes_at(s: &[u8], p: usize, table: &mut [u64], mark: usize) -> Co
 {
     match count_at(s, p) {
         Count::Took { count, used } => match nodes_in(s, used, count, table, mark) {
-            Nodes::Took { next, mark: behind } => Counted::Took {
+            Filled::Took { next, mark: behind } => Counted::Took {
                 count,
                 next,
                 mark: behind,
             },
-            Nodes::Refused(e) => Counted::Refused(e),
+            Filled::Refused(e) => Counted::Refused(e),
         },
         Count::Null { used } => Counted::Took {
             count: NULL,

@@ -8,13 +8,13 @@ ghost use Rattle.topics.specs.Shapes.{partitionFront, partitionShape};
 ghost use Rattle.topics.specs.Walks.{inPartitions, ofPartitionRow, partitionsIs};
 use crate::Marked;
 use crate::Marks;
-use crate::nodes::Counted;
 use crate::nodes::nodes_at;
 use places::int16_at;
 use places::int32_at;
 use primitives::Number;
 use primitives::Refusal;
 use rows::store5;
+use walks::Counted;
 
 // The numbers of a partition, and the place behind them.
 pub(crate) enum PartitionRow {

@@ -1,22 +1,23 @@
--- A field that the version may lack, read alone: each way out, for every kind of field and then for the three that code reads.
+-- A field that the version may lack, read alone: each way out, for every kind of field and then for those that code reads.
 use mathlib.Core.Bool.{Bool, cond, false, true}
-use mathlib.Core.List.{List, [], _++_, _∷_}
+use mathlib.Core.List.{List, [], _∷_}
 use mathlib.Core.Option.{Option, none, some}
 use mathlib.Core.Path.{_∙_, _≡_, ap, refl, subst, sym}
 use Prim.Native.Nat.{ℕ}
 use native.Mathlib.Omega.{arith}
 use Rattle.layout.specs.Reading.{Refusal, Res, bad, ok}
-use Rattle.layout.specs.Primitives.{cell, fixed, flag, kept, minus, w16, w32}
+use Rattle.layout.specs.Primitives.{cell, fixed, flag, kept, minus, w16, w32, w64}
 use Rattle.layout.specs.Read.{byPlace, readBasic}
 use Rattle.layout.specs.Rows.{Basic, BasicValue, boolean, end, number, optional, stands, text}
 use Rattle.layout.specs.Tables.{Span, absentCells, cells, span, width}
 use Rattle.fields.specs.Answers.{ofField, ofNullable, there}
 use Rattle.fields.specs.declared.Field.{Field}
 use Rattle.fields.specs.declared.Nullable.{Nullable}
-use Rattle.primitives.specs.Answers.{ofRefusal}
+use Rattle.primitives.specs.Answers.{ofNumber, ofRefusal}
+use Rattle.primitives.specs.declared.Number.{Number}
 use Rattle.rows.specs.Walk.{on, rowFrom}
 use Rattle.rows.proofs.RowCells.{cells-absent, cells-end, cells-no, cells-took}
-use Rattle.versioned.specs.Cells.{fieldCells, ofText}
+use Rattle.versioned.specs.Cells.{fieldCells, ofCell, ofText}
 
 module _ (b : Bool) (k : Basic) (s : List ℕ) (p : ℕ) where
   abbrev asked : Bool → Res (List ℕ)
@@ -48,6 +49,17 @@ module _ (b : Bool) (s : List ℕ) (p : ℕ) where
   pub int32-took : b ≡ true → (n q : ℕ) → ok n q ≡ on (cell w32) s p → ok (2 ∷ n ∷ []) q ≡ on (rowFrom [] (stands b (optional (0 ∷ []) (number w32)) end)) s p
   unfolding readBasic cells
   int32-took e n q d = has-took b (optional (0 ∷ []) (number w32)) s p e n q d
+
+  -- ---- a number that the version has or not
+
+  pub int64-lacks : b ≡ false → ok (minus ∷ []) p ≡ on (rowFrom [] (stands b (number w64) end)) s p
+  unfolding absentCells
+  int64-lacks e = lacks b (number w64) s p e
+
+  pub int64-there : b ≡ true → (r : Number) → ofNumber r ≡ on (cell w64) s p → ofCell r ≡ on (rowFrom [] (stands b (number w64) end)) s p
+  unfolding readBasic cells
+  int64-there e (Number.Took n q) d = has-took b (number w64) s p e n q d
+  int64-there e (Number.Refused c) d = has-no b (number w64) s p e (ofRefusal c) d
 
   -- ---- a Boolean
 

@@ -1,6 +1,6 @@
 -- The cells of fields that a version may lack. In front of a text, and of a number that is unset in some way, stands a kind: 0 absent, 1 null, 2 present.
 use mathlib.Core.List.{List, [], _∷_}
-use Prim.Native.Nat.{ℕ}
+use Prim.Native.Nat.{suc, zero, ℕ}
 use Rattle.layout.specs.Reading.{Res, bad, ok}
 use Rattle.primitives.specs.Answers.{ofRefusal}
 use Rattle.primitives.specs.declared.Number.{Number}
@@ -12,6 +12,16 @@ use Rattle.versioned.specs.declared.Versioned.{Versioned}
 abbrev pub versionedCells : Versioned → List ℕ
 versionedCells Versioned.Absent = 0 ∷ 0 ∷ []
 versionedCells (Versioned.Present n) = 2 ∷ n ∷ []
+
+-- the number, or d where there is none
+abbrev pub given : ℕ → Versioned → ℕ
+given d Versioned.Absent = d
+given d (Versioned.Present n) = n
+
+-- as a caller lends them: any kind but 0 is present
+unfoldable pub versionedRow : ℕ → ℕ → List ℕ
+versionedRow zero n = 0 ∷ 0 ∷ []
+versionedRow (suc k) n = 2 ∷ n ∷ []
 
 abbrev pub fieldCells : Field → List ℕ
 fieldCells Field.Absent = 0 ∷ 0 ∷ 0 ∷ []

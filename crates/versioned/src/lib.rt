@@ -1,21 +1,25 @@
 // Fields that a version may lack, at a place of a message: read where the version has them, and absent where it does not.
 ghost use mathlib.Core.Path.{_≡_};
 ghost use mathlib.Core.List.{[], _∷_};
-ghost use Rattle.layout.specs.Primitives.{fixed, kept, w16, w32};
+ghost use Rattle.layout.specs.Primitives.{fixed, kept, w16, w32, w64};
 ghost use Rattle.layout.specs.Rows.{boolean, end, number, optional, stands, text};
-ghost use Rattle.primitives.specs.Answers.{ofNumber};
 ghost use Rattle.rows.specs.Walk.{on, rowFrom};
 ghost use Rattle.versioned.specs.Cells.{ofCell, ofText, ofVersion};
+ghost use Rattle.versioned.specs.Fronts.{frontOf, ofFront};
 use fields::Field;
 use fields::Nullable;
 use places::boolean_at;
 use places::int32_at;
+use places::int64_at;
+use places::items_at;
 use places::nullable_string_at;
 use primitives::Flag;
 use primitives::Number;
 use primitives::Refusal;
 
-// The cell of -1: a Boolean that the version lacks.
+pub mod cells;
+
+// The cell of -1: a Boolean or a number that the version lacks.
 const ABSENT: u64 = 18446744073709551615;
 
 // A number that a version may lack, or a writer leave unset.
@@ -27,6 +31,16 @@ pub enum Versioned {
 // It, and the place behind it.
 pub enum Version {
     Took { value: Versioned, next: usize },
+    Refused(Refusal),
+}
+
+// The front of a body: its throttle time, the number of items of the array behind it, and the place where they start.
+pub enum Front {
+    Took {
+        throttle: Versioned,
+        count: u64,
+        next: usize,
+    },
     Refused(Refusal),
 }
 
@@ -46,6 +60,19 @@ pub fn int32_if(s: &[u8], p: usize, there: bool) -> Version
         },
         Number::Refused(e) => Version::Refused(e),
     }
+}
+
+// As a cell: -1 where the version lacks it.
+pub fn int64_if(s: &[u8], p: usize, there: bool) -> Number
+    ensures { λ r. ⌜ ofCell r ≡ on (rowFrom [] (stands there (number w64) end)) (now (s .entry)) p ⌝ }
+{
+    if !there {
+        return Number::Took {
+            value: ABSENT,
+            used: p,
+        };
+    }
+    int64_at(s, p)
 }
 
 // As a cell: 0 or 1, and -1 where the version lacks it.
@@ -77,4 +104,27 @@ pub fn nullable_string_if(s: &[u8], p: usize, there: bool) -> Nullable
         };
     }
     nullable_string_at(s, p)
+}
+
+// Where a body starts: perhaps a throttle time, and the number of items of an array.
+pub fn front_of(s: &[u8], there: bool) -> Front
+    ensures { λ r. ⌜ ofFront r ≡ on (frontOf there) (now (s .entry)) 0 ⌝ }
+{
+    match int32_if(s, 0, there) {
+        Version::Took {
+            value: throttle,
+            next: p,
+        } => match items_at(s, p, false, false) {
+            Number::Took {
+                value: count,
+                used: next,
+            } => Front::Took {
+                throttle,
+                count,
+                next,
+            },
+            Number::Refused(e) => Front::Refused(e),
+        },
+        Version::Refused(e) => Front::Refused(e),
+    }
 }

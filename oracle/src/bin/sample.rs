@@ -5,6 +5,7 @@ use oracle::case::Case;
 use oracle::judge::{judge, Verdict};
 use oracle::line::{Lent, Word};
 use oracle::make::{self, examples, rng::Rng};
+use oracle::model::write::Own;
 use std::collections::BTreeMap;
 use std::io::Result;
 use std::process::ExitCode;
@@ -13,7 +14,7 @@ use std::process::ExitCode;
 const INPUTS: u64 = 3_000_000;
 /// Case and answer of one input, and all of them together.
 const LONGEST: usize = 700;
-const BUDGET: usize = 750_000;
+const BUDGET: usize = 860_000;
 /// The most of one kind.
 const ROUNDS: usize = 6;
 
@@ -117,7 +118,7 @@ fn kind(case: &Case, verdict: &Verdict) -> String {
 }
 
 /// Primitives by their length, texts by what they begin with, parts by where they would stand, Metadata requests by
-/// auto-creation.
+/// auto-creation, Fetch requests by the most bytes at 3 and by isolation at 4.
 fn shape_of_case(case: &Case) -> String {
     match case {
         Case::Read { message, .. } => format!("{}", message.len().min(12)),
@@ -128,8 +129,10 @@ fn shape_of_case(case: &Case) -> String {
             let size = message.len() as u64;
             format!("{:?} {:?}", start.cmp(&size), start.saturating_add(*length).cmp(&size))
         }
-        Case::WriteBody { own, .. } => match &own[..] {
+        Case::WriteBody { own, version, .. } => match &own[..] {
             [_, creation] => format!("{creation:?}"),
+            [_, _, _, largest, _, _] if *version == 3 => format!("{}", *largest == Own::Absent),
+            [_, _, _, _, isolation, _] if *version == 4 => format!("{}", isolation.or(-1).clamp(-1, 2)),
             _ => String::new(),
         },
         _ => String::new(),

@@ -1,7 +1,7 @@
 //! The worked examples E1 to E12 and the further ones that are calls here: docs/RULES.md, section 12. Each has the answer
 //! that the page gives, written down by hand, so the model is held against it too (tests/examples.rs).
 use super::Section;
-use crate::calls::{ReadBody, WriteBody, METADATA_READ, METADATA_REQUEST_WRITE};
+use crate::calls::{ReadBody, WriteBody, FETCH_READ, FETCH_REQUEST_WRITE, METADATA_READ, METADATA_REQUEST_WRITE};
 use crate::calls::{PRIMITIVES, REQUEST_WRITE, RESPONSE_READS, RESPONSE_WRITE};
 use crate::case::Case;
 use crate::model::write::{Own, Value};
@@ -12,7 +12,8 @@ pub fn section() -> Section {
 
 /// Each case with the line that answers it.
 pub fn all() -> Vec<(Case, &'static str)> {
-    [primitives(), responses(), further(), metadata(), lookups(), metadata_requests()].into_iter().flatten().collect()
+    let older = [primitives(), responses(), further(), metadata(), lookups(), metadata_requests()];
+    older.into_iter().chain([fetch(), fetch_requests()]).flatten().collect()
 }
 
 fn bytes(hex: &str) -> Vec<u8> {
@@ -212,5 +213,101 @@ fn metadata_requests() -> Vec<(Case, &'static str)> {
         (write(0, 4, "c080", 1, unset, &[0, 2]), "no 7 0 0 a5a5a5a5 kept"),
         (write(0, 4, &"61".repeat(32_768), 1, unset, &[0, 32_768]), "no 11 0 0 a5a5a5a5 kept"),
         (write(5, 4, "c080", 7, unset, &[0, 3]), "no 1 0 0 a5a5a5a5 kept"),
+    ]
+}
+
+/// One topic and one partition at version 4, with an aborted pair and null records.
+const FETCH: &str = "00000009 00000001 0001 61 00000001 00000002 0000 0000000000000005 0000000000000004 \
+                     00000001 0000000000000006 0000000000000003 ffffffff";
+
+fn fetch_read(version: i16, rooms: [usize; 3], hex: &str) -> Case {
+    Case::ReadBody { call: &FETCH_READ, version, rooms: rooms.to_vec(), message: bytes(hex) }
+}
+
+fn fetch() -> Vec<(Case, &'static str)> {
+    let read = fetch_read;
+    // Up to its records, an empty name and one partition: at 0, and at 4 with null aborted pairs.
+    let zero = |records: &str| format!("00000001 0000 00000001 00000007 fffd 8000000000000000 {records}");
+    let four = |records: &str| {
+        let partition = "00000000 ffff 8000000000000000 ffffffffffffffff ffffffff";
+        format!("00000000 00000001 0000 00000001 {partition} {records}")
+    };
+    let mut list = vec![
+        (read(4, [3, 7, 2], FETCH), "ok 61 9 1 10,1,1 2,0,5,4,1,61,0 6,3 kept"),
+        (read(4, [4, 8, 3], FETCH), "ok 61 9 1 10,1,1,777 2,0,5,4,1,61,0,777 6,3,777 kept"),
+        (read(4, [3, 7, 1], FETCH), "no 10 0 1 777,777,777 777*7 777 kept"),
+        (read(4, [2, 6, 0], FETCH), "no 10 0 1 777,777 777*6 - kept"),
+        // At 3 the stable offset is a length of 0 and what is left over; at 0 there are nine topics.
+        (read(3, [3, 7, 0], FETCH), "ok 33 9 1 10,1,1 2,0,5,-1,0,33,0 - kept"),
+        (read(0, [3, 7, 2], FETCH), "no 3 60 0 777,777,777 777*7 777,777 kept"),
+        (read(5, [0; 3], FETCH), "no 1 0 0 - - - kept"),
+        (read(-1, [0; 3], FETCH), "no 1 0 0 - - - kept"),
+        (read(0, [0; 3], "ffffffff 00"), "ok 4 absent 0 - - - kept"),
+        (read(1, [0; 3], "80000000 ffffffff"), "ok 8 -2147483648 0 - - - kept"),
+        (read(2, [0; 3], "00000000 fffffffe"), "no 4 4 0 - - - kept"),
+        (read(0, [0; 3], "7fffffff"), "no 3 4 0 - - - kept"),
+        (read(0, [3, 0, 0], "00000001 0000 ffffffff"), "ok 10 absent 1 6,0,0 - - kept"),
+        (read(0, [0; 3], "00000001 ffff ffffffff"), "no 4 4 0 - - - kept"),
+        (read(0, [0; 3], "00000001 0002 c080 00000000"), "no 7 4 0 - - - kept"),
+        (read(0, [0; 3], "00000001 0002 c0"), "no 3 4 0 - - - kept"),
+        (
+            read(0, [3, 7, 0], &zero("00000002 abcd ef")),
+            "ok 30 absent 1 6,0,1 7,-3,-9223372036854775808,-1,0,28,2 - kept",
+        ),
+        (read(0, [3, 7, 0], &zero("ffffffff")), "ok 28 absent 1 6,0,1 7,-3,-9223372036854775808,-1,0,28,0 - kept"),
+        (read(0, [0; 3], &zero("00000003 abcd")), "no 3 24 0 - - - kept"),
+        (read(0, [0; 3], &zero("fffffffe")), "no 4 24 0 - - - kept"),
+        (read(4, [3, 7, 0], &four("00000002 abcd")), "ok 46 0 1 10,0,1 0,-1,-9223372036854775808,-1,0,44,2 - kept"),
+    ];
+    // Aborted pairs that are cut, and a count of them that is too low.
+    let front = &FETCH[..FETCH.len() - 8];
+    list.extend([
+        (read(4, [0; 3], &front[..front.len() - 3]), "no 3 49 0 - - - kept"),
+        (read(4, [0; 3], &front.replace("00000001 0000000000000006", "fffffffe 00")), "no 4 37 0 - - - kept"),
+    ]);
+    list.extend((0..=4).map(|version| (read(version, [0; 3], ""), "no 3 0 0 - - - kept")));
+    list
+}
+
+fn fetch_requests() -> Vec<(Case, &'static str)> {
+    let (number, unset) = (Own::Number, Own::Absent);
+    let own =
+        |wait, largest, isolation, topics| [number(-1), number(wait), number(1), largest, isolation, number(topics)];
+    let write = |version, room, lent: &str, own: [Own; 6], topics: &[i64], partitions: &[i64]| {
+        put(&FETCH_REQUEST_WRITE, version, room, lent, &own, &[topics, partitions])
+    };
+    let none = |largest, isolation| own(500, largest, isolation, 0);
+    let one = own(0, unset, unset, 1);
+    let rows = |topics: &[i64], partitions: &[i64]| write(0, 9, "636162", one, topics, partitions);
+    let long = "61".repeat(32_768);
+    vec![
+        (write(4, 22, "", none(unset, unset), &[], &[]), "ok 21 ffffffff000001f4000000017fffffff0000000000a5 kept"),
+        (write(4, 22, "", none(unset, number(2)), &[], &[]), "no 11 0 0 a5*22 kept"),
+        (write(3, 19, "", none(unset, number(2)), &[], &[]), "no 10 0 20 a5*19 kept"),
+        (write(3, 20, "", none(unset, number(2)), &[], &[]), "ok 20 ffffffff000001f4000000017fffffff00000000 kept"),
+        (
+            write(4, 21, "", none(number(5), number(1)), &[], &[]),
+            "ok 21 ffffffff000001f400000001000000050100000000 kept",
+        ),
+        (write(4, 21, "", none(unset, number(256)), &[], &[]), "no 11 0 0 a5*21 kept"),
+        (write(2, 16, "", none(number(1 << 31), unset), &[], &[]), "ok 16 ffffffff000001f40000000100000000 kept"),
+        (write(3, 20, "", none(number(1 << 31), unset), &[], &[]), "no 11 0 0 a5*20 kept"),
+        (
+            write(0, 41, "636162", one, &[1, 2, 1], &[3, 256, 1]),
+            "ok 40 ffffffff000000000000000100000001000261620000000100000003000000000000010000000001a5 kept",
+        ),
+        (rows(&[1, 2, 1], &[3, 256, 1]), "no 10 0 40 a5*9 kept"),
+        (rows(&[1, 2, 2], &[3, 256, 1]), "no 13 0 0 a5*9 kept"),
+        (rows(&[2, 2, 1], &[3, 256, 1]), "no 13 0 0 a5*9 kept"),
+        (rows(&[1, 2, -1], &[]), "no 13 0 0 a5*9 kept"),
+        (rows(&[1, 2, 1], &[3, 256]), "no 13 0 0 a5*9 kept"),
+        (write(0, 9, "", own(0, unset, unset, -1), &[], &[]), "no 13 0 0 a5*9 kept"),
+        // Counts before numbers, and these and texts by their fields.
+        (write(0, 9, "c080", own(1 << 31, unset, unset, 2), &[0, 2, 0], &[]), "no 13 0 0 a5*9 kept"),
+        (write(0, 9, "c080", own(1 << 31, unset, unset, 1), &[0, 2, 0], &[]), "no 11 0 0 a5*9 kept"),
+        (write(0, 9, "c080", one, &[0, 2, 1], &[1 << 31, 0, 0]), "no 7 0 0 a5*9 kept"),
+        (write(0, 9, "61ff", own(0, unset, unset, 2), &[0, 1, 1, 1, 1, 0], &[0, 0, 1 << 31]), "no 11 0 0 a5*9 kept"),
+        (write(0, 9, &long, one, &[0, 32_768, 0], &[]), "no 11 0 0 a5*9 kept"),
+        (write(5, 9, "c080", own(1 << 31, unset, number(2), 7), &[0, 3, -1], &[]), "no 1 0 0 a5*9 kept"),
     ]
 }

@@ -1,6 +1,8 @@
 //! All strings of a kind, each given to every call of a list.
 use super::Section;
-use crate::calls::{Named, ReadBody, METADATA_READ, PRIMITIVES, REQUEST_READ, RESPONSE_READS, TAGGED_FIELDS};
+use crate::calls::{
+    Named, ReadBody, FETCH_READ, METADATA_READ, PRIMITIVES, REQUEST_READ, RESPONSE_READS, TAGGED_FIELDS,
+};
 use crate::case::Case;
 use std::ops::RangeInclusive;
 
@@ -56,7 +58,7 @@ pub fn long_primitives() -> Vec<Ask> {
 
 /// Bodies at every version, as a prefix and whole, and lookups.
 pub fn bodies() -> Vec<Ask> {
-    let calls = [&RESPONSE_READS[0], &RESPONSE_READS[1], &REQUEST_READ, &METADATA_READ];
+    let calls = [&RESPONSE_READS[0], &RESPONSE_READS[1], &REQUEST_READ, &METADATA_READ, &FETCH_READ];
     let versions = |call: &ReadBody| 0..=call.last.unwrap_or(0);
     let mut asks: Vec<Ask> =
         calls.into_iter().flat_map(|call| versions(call).map(move |version| Ask::Body(call, version))).collect();
@@ -91,8 +93,20 @@ pub fn strings(asks: Vec<Ask>, alphabet: Vec<u8>, lengths: RangeInclusive<u32>) 
     })
 }
 
+/// Every string of up to so many words of a list, behind each front.
+pub fn of_words(list: Vec<(Ask, Vec<u8>)>, words: &'static [&'static [u8]], most: u32) -> Section {
+    let letters = words.len() as u64;
+    let each: u64 = (0..=most).map(|length| letters.pow(length)).sum();
+    Section::new(each * list.len() as u64, move |index| {
+        let (ask, front) = &list[(index / each) as usize];
+        let chosen = digits(index % each, letters, 0);
+        let message = chosen.iter().fold(front.clone(), |message, word| [&message, words[*word]].concat());
+        ask.of(message, index)
+    })
+}
+
 /// All strings of digits, from the shortest length on: the one of that index.
-pub fn digits(index: u64, letters: u64, shortest: u32) -> Vec<usize> {
+fn digits(index: u64, letters: u64, shortest: u32) -> Vec<usize> {
     let (mut rest, mut length) = (index, shortest);
     while rest >= letters.pow(length) {
         rest -= letters.pow(length);

@@ -1,8 +1,11 @@
 //! Inputs. A plan is a list of sections, and any input of a section is made from its index alone, so a plan can be run in
 //! parts and twice alike.
+pub mod body;
 pub mod boundaries;
+pub mod ends;
 pub mod examples;
 pub mod exhaustive;
+pub mod fetch;
 pub mod metadata;
 pub mod others;
 pub mod reads;
@@ -72,20 +75,22 @@ fn random(seed: u64, size: u64) -> Section {
     Section::new(size, move |index| {
         let rng = &mut Rng::new(seed ^ 2, index);
         match rng.below(100) {
-            0..=13 => reads::primitive(rng),
-            14..=19 => reads::tagged_fields(rng),
-            20..=33 => reads::response(rng),
-            34..=37 => reads::request(rng),
-            38..=47 => writes::primitive(rng),
-            48..=51 => writes::tagged_fields(rng),
-            52..=58 => writes::response(rng),
-            59..=62 => writes::request(rng),
-            63..=66 => others::text(rng),
-            67 => others::part(rng),
-            68..=69 => others::agree(rng),
-            70..=83 => metadata::read(rng),
-            84..=91 => metadata::host(rng),
-            _ => metadata::requests::request(rng),
+            0..=10 => reads::primitive(rng),
+            11..=14 => reads::tagged_fields(rng),
+            15..=24 => reads::response(rng),
+            25..=27 => reads::request(rng),
+            28..=34 => writes::primitive(rng),
+            35..=37 => writes::tagged_fields(rng),
+            38..=42 => writes::response(rng),
+            43..=45 => writes::request(rng),
+            46..=48 => others::text(rng),
+            49 => others::part(rng),
+            50 => others::agree(rng),
+            51..=61 => metadata::read(rng),
+            62..=67 => metadata::host(rng),
+            68..=74 => metadata::requests::request(rng),
+            75..=88 => fetch::read(rng),
+            _ => fetch::requests::request(rng),
         }
     })
 }
@@ -111,11 +116,20 @@ fn fixed(seed: u64) -> Vec<Section> {
         metadata::ends::sizes(seed),
         metadata::requests::ends(),
         metadata::requests::sizes(),
+        fetch::ends::counts(seed),
+        fetch::ends::texts(seed),
+        fetch::ends::rooms(),
+        fetch::ends::cuts(seed),
+        fetch::ends::large(),
+        fetch::ends::sizes(seed),
+        fetch::requests::ends(),
+        fetch::requests::pairs(),
+        fetch::requests::sizes(),
     ]
 }
 
 /// The short run's fixed part: all strings of up to one byte for all reads, of two where a second can matter, of three and four
-/// telling bytes for primitives, and of up to four words for Metadata.
+/// telling bytes for primitives, and of up to four words for Metadata and Fetch.
 fn short_fixed(seed: u64) -> Vec<Section> {
     let mut sections = fixed(seed);
     sections.push(strings(all(), any_byte(), 0..=1));
@@ -126,6 +140,9 @@ fn short_fixed(seed: u64) -> Vec<Section> {
     sections.push(metadata::words(4));
     sections.push(metadata::crossed(seed, 2_000));
     sections.push(metadata::cut(seed, 300));
+    sections.push(fetch::words(4));
+    sections.push(fetch::crossed(seed, 2_000));
+    sections.push(fetch::cut(seed, 300));
     sections
 }
 
@@ -142,7 +159,7 @@ pub fn short(seed: u64, count: u64) -> Result<Vec<Section>, u64> {
 }
 
 /// All strings of two bytes for all reads, of three bytes where a third can matter, of up to six telling bytes for
-/// primitives, of up to six words for Metadata, and many random inputs.
+/// primitives, of up to six words for Metadata and Fetch, and many random inputs.
 pub fn long(seed: u64) -> Vec<Section> {
     let mut sections = fixed(seed);
     sections.push(strings(all(), any_byte(), 0..=2));
@@ -153,6 +170,9 @@ pub fn long(seed: u64) -> Vec<Section> {
     sections.push(metadata::words(6));
     sections.push(metadata::crossed(seed, 200_000));
     sections.push(metadata::cut(seed, 30_000));
+    sections.push(fetch::words(6));
+    sections.push(fetch::crossed(seed, 200_000));
+    sections.push(fetch::cut(seed, 30_000));
     sections.push(random(seed, 25_000_000));
     sections
 }

@@ -97,7 +97,7 @@ pub fn write_response(version: i16, given: &Given) -> Result<Vec<u8>, Refusal> {
         }
     }
     if version >= 1 {
-        fields.int(4, if let Own::Number(time) = throttle { *time } else { 0 });
+        fields.int(4, throttle.or(0));
     }
     if flexible {
         fields.tagged_fields(given, &mut rows, *tags);

@@ -2,6 +2,7 @@
 //! Rust has no word for: numbers, places, needs, starts and rows.
 pub mod agreement;
 pub mod api_versions;
+pub mod fetch;
 pub mod metadata;
 pub mod primitives;
 pub mod text;

@@ -133,6 +133,28 @@ impl<'a> Reader<'a> {
         }
     }
 
+    /// Start and length of a text; nothing for null.
+    pub fn span(&mut self, null: Null) -> Read<Option<[i64; 2]>> {
+        Ok(match self.text(Form::Int16, null)? {
+            Word::Part(start, contents) => Some([start as i64, contents.len() as i64]),
+            _ => None,
+        })
+    }
+
+    /// An Int32 that the body has from a version on.
+    pub fn number_from(&mut self, first: i16, version: i16) -> Read<Word<'a>> {
+        Ok(if version >= first { Word::Number(self.int(4)?.into()) } else { Word::Absent })
+    }
+
+    /// An array: how many items it has, nothing for null.
+    pub fn counted(&mut self, item: impl Fn(&mut Self) -> Read<()>) -> Read<Option<i64>> {
+        let count = self.length(Form::Int32)?;
+        for _ in 0..count.unwrap_or(0) {
+            item(self)?;
+        }
+        Ok(count.map(|n| n as i64))
+    }
+
     /// Rows (tag, start, length) behind those of the table; how many.
     pub fn tagged_fields(&mut self, table: usize) -> Read<i64> {
         let count = self.unsigned_varint()?;

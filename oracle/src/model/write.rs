@@ -16,6 +16,16 @@ pub enum Own {
     Absent,
 }
 
+impl Own {
+    /// The number, or the one that stands for unset.
+    pub fn or(&self, unset: i64) -> i64 {
+        match self {
+            Own::Number(n) => *n,
+            _ => unset,
+        }
+    }
+}
+
 /// All that a writer of a body is given beside the version.
 #[derive(Debug, Clone, PartialEq, Eq)]
 pub struct Given<'a> {
@@ -63,6 +73,16 @@ impl<'g, 'a> Tables<'g, 'a> {
         self.good &= i128::from(count) == rows as i128;
     }
 
+    /// Counts that cannot be -1, added up.
+    pub fn must_add_up(&mut self, counts: impl Iterator<Item = i64>, rows: usize) {
+        let mut sum = 0;
+        for count in counts {
+            self.good &= count >= 0;
+            sum += i128::from(count);
+        }
+        self.good &= sum == rows as i128;
+    }
+
     /// A tag count: -1 is unset and adds none.
     pub fn tag_count(&mut self, count: i64) {
         self.good &= count >= -1;
@@ -101,7 +121,7 @@ pub struct Fields {
 }
 
 impl Fields {
-    fn must(&mut self, holds: bool, number: u8) {
+    pub fn must(&mut self, holds: bool, number: u8) {
         if !holds {
             self.fault.get_or_insert(number);
         }

@@ -1,12 +1,12 @@
 //! ApiVersions of the given Rust, read and written.
-use super::primitives::{held, held_tags, held_text, spell_tags};
+use super::primitives::{held, held_number, held_tags, held_text, spell_number, spell_tags};
 use super::{listen, Read, Silence, Written};
 use crate::model::write::{Given, Own};
 use crate::protocol::api_key::ApiKey;
 use crate::protocol::api_version::ApiVersion;
 use crate::protocol::error::Error;
 use crate::protocol::messages::*;
-use crate::protocol::primitives::{CompactString, Int16, Int32};
+use crate::protocol::primitives::{CompactString, Int16};
 use crate::token::Token;
 use std::io::Cursor;
 
@@ -24,7 +24,7 @@ pub fn read_response(at: i16, message: &[u8]) -> Read {
             tokens.extend(numbers.map(Token::number));
             spell_tags(&mut tokens, item.tagged_fields);
         }
-        tokens.push(body.throttle_time_ms.map_or(Token::Absent, |time| Token::number(time.0)));
+        tokens.push(spell_number(body.throttle_time_ms));
         spell_tags(&mut tokens, body.tagged_fields);
         Ok::<_, ReadVersionedError>((tokens, reader.position() as usize))
     })
@@ -56,10 +56,7 @@ pub fn write_response(at: i16, given: &Given) -> Result<Written, Silence> {
     let body = ApiVersionsResponse {
         error_code: Error::new(held(*error)?),
         api_keys,
-        throttle_time_ms: match throttle {
-            Own::Number(time) => Some(Int32(held(*time)?)),
-            _ => None,
-        },
+        throttle_time_ms: held_number(throttle)?,
         tagged_fields: held_tags(given, &mut rows, *tags),
     };
     Ok(put(body, at))

@@ -1,10 +1,10 @@
 //! Metadata of the given Rust: the response read, the request written. It has no lookup; here its list of brokers is searched.
 use super::api_versions::{put, version};
-use super::primitives::held_text;
+use super::primitives::{held_text, spell_number};
 use super::{listen, Read, Silence, Written};
 use crate::model::write::{Given, Own};
 use crate::protocol::messages::*;
-use crate::protocol::primitives::{Array, Boolean, Int16, Int32, NullableString, String_};
+use crate::protocol::primitives::{Array, Boolean, Int16, NullableString, String_};
 use crate::token::Token;
 use std::io::Cursor;
 
@@ -28,22 +28,18 @@ pub fn host(at: i16, node: i64, message: &[u8]) -> Read {
     })
 }
 
-fn number(field: Option<Int32>) -> Token<'static> {
-    field.map_or(Token::Absent, |n| Token::number(n.0))
-}
-
 /// Absent, null or present.
 fn text(field: Option<NullableString>) -> Token<'static> {
     field.map_or(Token::Absent, |text| text.0.map_or(Token::Null, Token::contents))
 }
 
 fn spell(body: MetadataResponse) -> Vec<Token<'static>> {
-    let mut tokens = vec![number(body.throttle_time_ms), Token::number(body.brokers.len() as u64)];
+    let mut tokens = vec![spell_number(body.throttle_time_ms), Token::number(body.brokers.len() as u64)];
     for broker in body.brokers {
         tokens.extend([Token::number(broker.node_id.0), Token::contents(broker.host.0)]);
         tokens.extend([Token::number(broker.port.0), text(broker.rack)]);
     }
-    tokens.extend([text(body.cluster_id), number(body.controller_id), Token::number(body.topics.len() as u64)]);
+    tokens.extend([text(body.cluster_id), spell_number(body.controller_id), Token::number(body.topics.len() as u64)]);
     for topic in body.topics {
         tokens.extend([Token::number(Int16::from(topic.error).0), Token::contents(topic.name.0)]);
         tokens.push(topic.is_internal.map_or(Token::Absent, |flag| Token::number(flag.0)));

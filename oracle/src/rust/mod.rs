@@ -1,5 +1,6 @@
 //! The given Rust, asked. It runs as it was given; a panic is heard like any other answer.
 pub mod api_versions;
+pub mod fetch;
 pub mod metadata;
 pub mod primitives;
 
@@ -26,6 +27,8 @@ pub type Written = Heard<Vec<u8>>;
 pub enum Silence {
     /// Its types cannot hold the value.
     CannotHold,
+    /// It has no such isolation level.
+    NoSuchLevel,
     /// It would compare the rules with a stand-in of ours, or it would take too long.
     NotCompared,
 }

@@ -63,7 +63,7 @@ fn read_token(primitive: Primitive, r: &mut Reader) -> Result<Token<'static>, Re
 }
 
 /// With the shim a batch is all that is left, so there is at most one.
-fn contents(records: Records) -> Vec<u8> {
+pub fn contents(records: Records) -> Vec<u8> {
     records.0.into_iter().flat_map(|batch| batch.0).collect()
 }
 
@@ -74,6 +74,11 @@ pub fn read_tagged_fields(_version: i16, message: &[u8]) -> Read {
         spell_tags(&mut tokens, Some(TaggedFields::read(&mut reader)?));
         Ok::<_, ReadError>((tokens, reader.position() as usize))
     })
+}
+
+/// A number that the version may lack.
+pub fn spell_number(field: Option<Int32>) -> Token<'static> {
+    field.map_or(Token::Absent, |n| Token::number(n.0))
 }
 
 pub fn spell_tags(tokens: &mut Vec<Token<'static>>, tags: Option<TaggedFields>) {
@@ -130,6 +135,14 @@ fn write_number(primitive: Primitive, n: i64) -> Result<Written, Silence> {
 /// A cell in a narrower type of the Rust.
 pub fn held<T: TryFrom<i64>>(cell: i64) -> Result<T, Silence> {
     T::try_from(cell).map_err(|_| Silence::CannotHold)
+}
+
+/// An own word that may be unset.
+pub fn held_number(word: &Own) -> Result<Option<Int32>, Silence> {
+    match word {
+        Own::Number(n) => held(*n).map(|n| Some(Int32(n))),
+        _ => Ok(None),
+    }
 }
 
 pub fn held_text(contents: &[u8]) -> Result<String, Silence> {

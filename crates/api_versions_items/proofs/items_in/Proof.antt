@@ -1,19 +1,22 @@
 -- What is left to read from here is what was asked at the start. Every turn takes one from `left`, so the loop ends, if not by a refusal.
 use mathlib.Core.Path.{_≡_, refl}
 use lib.ListN.{length}
-use Rattle.api_versions_items.proofs.ItemTurns.{Left, left-all, left-next, left-no, left-none}
+use Rattle.rows.specs.Walk.{walk}
+use Rattle.rows.proofs.Loops.{Going, going-done, going-start, turn-next, turn-no}
+use Rattle.api_versions_items.specs.Shapes.{keyShape}
+use Rattle.api_versions_items.specs.Walks.{inTables, rowsIs}
 use borrow.Author.Needs.{needs}
 use Rattle.api_versions_items.proofs.items_in.Statement.{statement}
 use Rattle.api_versions_items.proofs.items_in.Tie as tie
 
 abbrev Inv-loop : tie.InvT-loop
-Inv-loop s p flexible count items₀ tags₀ left₀ place₀ row₀ tag₀ items tags left place row tag = Left flexible s count p items₀ tags₀ left place items row tags tag × ((length items ≡ length items₀) × (length tags ≡ length tags₀))
+Inv-loop s p flexible count items₀ tags₀ left₀ place₀ row₀ tag₀ items tags left place row tag = Going (λ e. walk (e .0) (keyShape flexible) 1) s count p (inTables items₀ 0 tags₀ 0) left place (inTables items row tags tag) × ((length items ≡ length items₀) × (length tags ≡ length tags₀))
 
 abbrev μ-loop : tie.MeasureT-loop
 μ-loop s p flexible count items₀ tags₀ left₀ place₀ row₀ tag₀ items tags left place row tag = left
 
 loop-holds : tie.Need-loop-holds Inv-loop μ-loop
-loop-holds c = (left-all _ _ _ _ _ _, (refl, refl))
+loop-holds c = (going-start _ _ _ _ _, (refl, refl))
 
 item-at-requires : tie.Need-item-at-requires Inv-loop μ-loop
 item-at-requires c κs = tt
@@ -28,7 +31,7 @@ loop-less : tie.Need-loop-less Inv-loop μ-loop
 loop-less c = search needs
 
 loop-again : tie.Need-loop-again Inv-loop μ-loop
-loop-again c = (left-next _ _ _ _ _ _ _ _ _ _ _ _ (c .before .before .before .before .before .before .before .before .before .before .before .loop .inv .0) (c .before .before .before .before .before .before .before .before .before .before .loop-test .taken) _ _ _ (c .before .before .before .before .before .before .before .item-at .ensures) _ _ _ (c .before .next .given .1), (search needs, search needs))
+loop-again c = (turn-next _ _ _ _ _ _ _ _ (c .before .before .before .before .before .before .before .before .before .before .before .loop .inv .0) (c .before .before .before .before .before .before .before .before .before .before .loop-test .taken) (rowsIs _ _) _ _ (c .before .before .before .before .before .before .before .item-at .ensures) (c .before .next .given .1) _ (λ e. refl), (search needs, search needs))
 
 enum-known-e : tie.Need-enum-known-e Inv-loop μ-loop
 enum-known-e c = search needs
@@ -40,7 +43,7 @@ same-length-2 : tie.Need-same-length-2 Inv-loop μ-loop
 same-length-2 c = search needs
 
 returns : tie.Need-returns Inv-loop μ-loop
-returns c = left-no _ _ _ _ _ _ _ _ _ _ _ _ (c .before .before .before .before .before .before .before .before .before .before .before .loop .inv .0) (c .before .before .before .before .before .before .before .before .before .before .loop-test .taken) _ _ _ (c .before .before .before .before .before .before .before .item-at .ensures) _ (c .before .e .given .1)
+returns c = turn-no _ _ _ _ _ _ _ _ (c .before .before .before .before .before .before .before .before .before .before .before .loop .inv .0) (c .before .before .before .before .before .before .before .before .before .before .loop-test .taken) (rowsIs _ _) _ _ (c .before .before .before .before .before .before .before .item-at .ensures) (c .before .e .given .1) (λ e. refl)
 
 same-length-3 : tie.Need-same-length-3 Inv-loop μ-loop
 same-length-3 c = search needs
@@ -49,7 +52,7 @@ same-length-4 : tie.Need-same-length-4 Inv-loop μ-loop
 same-length-4 c = search needs
 
 returns-2 : tie.Need-returns-2 Inv-loop μ-loop
-returns-2 c = left-none _ _ _ _ _ _ _ _ _ _ _ _ (c .before .loop .inv .0) (c .loop-test .left)
+returns-2 c = going-done _ _ _ _ _ _ _ _ (c .before .loop .inv .0) (c .loop-test .left)
 
 pub items-in-spec : {M : Type 1} → statement M
 items-in-spec =

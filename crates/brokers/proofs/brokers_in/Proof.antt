@@ -1,19 +1,22 @@
 -- What is left to read from here is what was asked at the start. Every turn takes one from `left`, so the loop ends, if not by a refusal.
+use mathlib.Core.Bool.{false}
 use mathlib.Core.Path.{_≡_, refl}
 use lib.ListN.{length}
-use Rattle.brokers.proofs.Turns.{Left, left-all, left-next, left-no, left-none}
+use Rattle.rows.specs.Walk.{walk}
+use Rattle.rows.proofs.Loops.{Going, going-done, going-start, turn-next, turn-no}
+use Rattle.brokers.specs.Brokers.{atBrokers, brokerShape, filledIs}
 use borrow.Author.Needs.{needs}
 use Rattle.brokers.proofs.brokers_in.Statement.{statement}
 use Rattle.brokers.proofs.brokers_in.Tie as tie
 
 abbrev Inv-loop : tie.InvT-loop
-Inv-loop s p racked count table₀ left₀ place₀ behind₀ table left place behind = Left racked s count p table₀ left place table behind × (length table ≡ length table₀)
+Inv-loop s p racked count table₀ left₀ place₀ behind₀ table left place behind = Going (λ e. walk false (brokerShape racked) 1) s count p (atBrokers table₀ 0) left place (atBrokers table behind) × (length table ≡ length table₀)
 
 abbrev μ-loop : tie.MeasureT-loop
 μ-loop s p racked count table₀ left₀ place₀ behind₀ table left place behind = left
 
 loop-holds : tie.Need-loop-holds Inv-loop μ-loop
-loop-holds c = (left-all _ _ _ _ _, refl)
+loop-holds c = (going-start _ _ _ _ _, refl)
 
 broker-at-requires : tie.Need-broker-at-requires Inv-loop μ-loop
 broker-at-requires c κs = tt
@@ -28,7 +31,7 @@ loop-less : tie.Need-loop-less Inv-loop μ-loop
 loop-less c = search needs
 
 loop-again : tie.Need-loop-again Inv-loop μ-loop
-loop-again c = (left-next _ _ _ _ _ _ _ _ _ (c .before .before .before .before .before .before .before .before .loop .inv .0) (c .before .before .before .before .before .before .before .loop-test .taken) _ _ (c .before .before .before .before .before .broker-at .ensures) _ _ (c .before .next .given .1), search needs)
+loop-again c = (turn-next _ _ _ _ _ _ _ _ (c .before .before .before .before .before .before .before .before .loop .inv .0) (c .before .before .before .before .before .before .before .loop-test .taken) (filledIs _) _ _ (c .before .before .before .before .before .broker-at .ensures) (c .before .next .given .1) _ (λ e. refl), search needs)
 
 enum-known-e : tie.Need-enum-known-e Inv-loop μ-loop
 enum-known-e c = search needs
@@ -37,13 +40,13 @@ same-length : tie.Need-same-length Inv-loop μ-loop
 same-length c = search needs
 
 returns : tie.Need-returns Inv-loop μ-loop
-returns c = left-no _ _ _ _ _ _ _ _ _ (c .before .before .before .before .before .before .before .before .loop .inv .0) (c .before .before .before .before .before .before .before .loop-test .taken) _ _ (c .before .before .before .before .before .broker-at .ensures) _ (c .before .e .given .1)
+returns c = turn-no _ _ _ _ _ _ _ _ (c .before .before .before .before .before .before .before .before .loop .inv .0) (c .before .before .before .before .before .before .before .loop-test .taken) (filledIs _) _ _ (c .before .before .before .before .before .broker-at .ensures) (c .before .e .given .1) (λ e. refl)
 
 same-length-2 : tie.Need-same-length-2 Inv-loop μ-loop
 same-length-2 c = search needs
 
 returns-2 : tie.Need-returns-2 Inv-loop μ-loop
-returns-2 c = left-none _ _ _ _ _ _ _ _ _ (c .before .loop .inv .0) (c .loop-test .left)
+returns-2 c = going-done _ _ _ _ _ _ _ _ (c .before .loop .inv .0) (c .loop-test .left)
 
 pub brokers-in-spec : {M : Type 1} → statement M
 brokers-in-spec =

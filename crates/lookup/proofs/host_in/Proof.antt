@@ -1,23 +1,16 @@
--- The throttle time and the count stand in front of the brokers, and are read where the brokers' reader reads them.
+-- The front of the body is read where the brokers' reader reads it, and the brokers behind it.
 use mathlib.Core.Path.{_∙_, ap, sym}
-use Rattle.primitives.specs.Answers.{ofNumber}
-use Rattle.versioned.specs.Cells.{ofVersion}
-use Rattle.lookup.proofs.Search.{among, count-no, throttle-no}
+use Rattle.versioned.specs.Fronts.{ofFront}
+use Rattle.lookup.proofs.Search.{among, front-no}
 use borrow.Author.Needs.{needs}
 use Rattle.lookup.proofs.host_in.Statement.{statement}
 use Rattle.lookup.proofs.host_in.Tie as tie
 
-int32-if-requires : tie.Need-int32-if-requires
-int32-if-requires c κs = search needs
+front-of-requires : tie.Need-front-of-requires
+front-of-requires c κs = search needs
 
 enum-known-throttle : tie.Need-enum-known-throttle
 enum-known-throttle c = search needs
-
-items-at-requires : tie.Need-items-at-requires
-items-at-requires c κs = search needs
-
-enum-known-count : tie.Need-enum-known-count
-enum-known-count c = search needs
 
 seek-requires : tie.Need-seek-requires
 seek-requires c κs = search needs
@@ -25,29 +18,11 @@ seek-requires c κs = search needs
 enum-known-e : tie.Need-enum-known-e
 enum-known-e c = search needs
 
-enum-known-e-2 : tie.Need-enum-known-e-2
-enum-known-e-2 c = search needs
-
 returns : tie.Need-returns
-returns c = among _ _ _ _ _ _ _ (ap ofVersion (sym (c .before .before .before .before .before .before .throttle .given .1)) ∙ c .before .before .before .before .before .before .before .before .int32-if .ensures) _ _ (ap ofNumber (sym (c .before .before .count .given .1)) ∙ c .before .before .before .before .items-at .ensures) (c .seek .ensures)
+returns c = among _ _ _ _ _ _ _ _ (ap ofFront (sym (c .before .before .throttle .given .1)) ∙ c .before .before .before .before .front-of .ensures) (c .seek .ensures)
 
 returns-2 : tie.Need-returns-2
-returns-2 c = count-no _ _ _ _ _ _ _ (ap ofVersion (sym (c .before .before .before .before .before .throttle .given .1)) ∙ c .before .before .before .before .before .before .before .int32-if .ensures) _ (ap ofNumber (sym (c .before .e .given .1)) ∙ c .before .before .before .items-at .ensures)
-
-returns-3 : tie.Need-returns-3
-returns-3 c = throttle-no _ _ _ _ _ _ (ap ofVersion (sym (c .before .e2 .given .1)) ∙ c .before .before .before .int32-if .ensures)
+returns-2 c = front-no _ _ _ _ _ _ (ap ofFront (sym (c .before .e .given .1)) ∙ c .before .before .before .front-of .ensures)
 
 pub host-in-spec : {M : Type 1} → statement M
-host-in-spec =
-    tie.close
-    (tie.spec
-    int32-if-requires
-    enum-known-throttle
-    items-at-requires
-    enum-known-count
-    seek-requires
-    enum-known-e
-    enum-known-e-2
-    returns
-    returns-2
-    returns-3)
+host-in-spec = tie.close (tie.spec front-of-requires enum-known-throttle seek-requires enum-known-e returns returns-2)

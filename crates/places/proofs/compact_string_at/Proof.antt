@@ -1,5 +1,5 @@
 -- The step on the rest is a read at the place where the rest starts.
-use Rattle.places.proofs.TextAt.{part-at, part-fits, shows-compact}
+use Rattle.places.proofs.PartAt.{part-at, part-fits, shows-compact}
 use borrow.Author.Needs.{needs}
 use Rattle.places.proofs.compact_string_at.Statement.{statement}
 use Rattle.places.proofs.compact_string_at.Tie as tie

@@ -3,7 +3,7 @@ use mathlib.Core.Path.{_∙_, ap, sym}
 use Rattle.layout.specs.Reading.{bad}
 use Rattle.fields.specs.Answers.{ofNullable}
 use Rattle.places.specs.Moved.{fromPlace, furtherField}
-use Rattle.places.proofs.TextAt.{field-took}
+use Rattle.places.proofs.PartAt.{field-took}
 use borrow.Author.Needs.{needs}
 use Rattle.places.proofs.field_moved.Statement.{statement}
 use Rattle.places.proofs.field_moved.Tie as tie

@@ -1,5 +1,5 @@
 -- The step on the rest is a read at the place where the rest starts.
-use Rattle.places.proofs.TextAt.{field-at, field-fits}
+use Rattle.places.proofs.PartAt.{field-at, field-fits}
 use borrow.Author.Needs.{needs}
 use Rattle.places.proofs.nullable_string_at.Statement.{statement}
 use Rattle.places.proofs.nullable_string_at.Tie as tie

@@ -3,9 +3,8 @@ use mathlib.Core.Path.{_≡_, refl}
 use lib.ListN.{length}
 use borrow.Author.Needs.{needs}
 use Rattle.rows.specs.Walk.{walk}
-use Rattle.rows.proofs.Loops.{Going, going-done, going-start}
-use Rattle.tags.specs.Answers.{inTable, tagShape}
-use Rattle.tags.proofs.Turns.{turn-next, turn-no}
+use Rattle.rows.proofs.Loops.{Going, going-done, going-start, turn-next, turn-no}
+use Rattle.tags.specs.Answers.{inTable, inTableIs, tagShape}
 use Rattle.tags.proofs.tags_at.Statement.{statement}
 use Rattle.tags.proofs.tags_at.Tie as tie
 
@@ -31,7 +30,7 @@ loop-less : tie.Need-loop-less Inv-loop μ-loop
 loop-less c = search needs
 
 loop-again : tie.Need-loop-again Inv-loop μ-loop
-loop-again c = (turn-next _ _ _ _ _ _ _ _ _ (c .before .before .before .before .before .before .before .before .loop .inv .0) (c .before .before .before .before .before .before .before .loop-test .taken) _ _ (c .before .before .before .before .before .tag-in .ensures) _ _ (c .before .next .given .1), search needs)
+loop-again c = (turn-next _ _ _ _ _ _ _ _ (c .before .before .before .before .before .before .before .before .loop .inv .0) (c .before .before .before .before .before .before .before .loop-test .taken) (inTableIs _) _ _ (c .before .before .before .before .before .tag-in .ensures) (c .before .next .given .1) _ (λ e. refl), search needs)
 
 enum-known-e : tie.Need-enum-known-e Inv-loop μ-loop
 enum-known-e c = search needs
@@ -40,7 +39,7 @@ same-length : tie.Need-same-length Inv-loop μ-loop
 same-length c = search needs
 
 returns : tie.Need-returns Inv-loop μ-loop
-returns c = turn-no _ _ _ _ _ _ _ _ _ (c .before .before .before .before .before .before .before .before .loop .inv .0) (c .before .before .before .before .before .before .before .loop-test .taken) _ _ (c .before .before .before .before .before .tag-in .ensures) _ (c .before .e .given .1)
+returns c = turn-no _ _ _ _ _ _ _ _ (c .before .before .before .before .before .before .before .before .loop .inv .0) (c .before .before .before .before .before .before .before .loop-test .taken) (inTableIs _) _ _ (c .before .before .before .before .before .tag-in .ensures) (c .before .e .given .1) (λ e. refl)
 
 same-length-2 : tie.Need-same-length-2 Inv-loop μ-loop
 same-length-2 c = search needs

@@ -4,7 +4,7 @@ pub mod body;
 pub mod ends;
 pub mod requests;
 
-use super::exhaustive::{digits, Ask};
+use super::exhaustive::{of_words, Ask};
 use super::reads::{self, outside};
 use super::rng::Rng;
 use super::wire::{varied, Wire};
@@ -172,12 +172,5 @@ pub fn words(most: u32) -> Section {
         list.extend([(read, vec![]), (Ask::Host(version), vec![])]);
         list.extend([(read, front("topics")), (read, front("replicas"))]);
     }
-    let letters = WORDS.len() as u64;
-    let each: u64 = (0..=most).map(|length| letters.pow(length)).sum();
-    Section::new(each * list.len() as u64, move |index| {
-        let (ask, front) = &list[(index / each) as usize];
-        let words = digits(index % each, letters, 0);
-        let message = words.iter().fold(front.clone(), |message, word| [&message, WORDS[*word]].concat());
-        ask.of(message, index)
-    })
+    of_words(list, &WORDS, most)
 }

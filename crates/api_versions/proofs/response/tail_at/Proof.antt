@@ -4,8 +4,8 @@ use borrow.Author.Needs.{needs}
 use Rattle.api_versions.proofs.response.tail_at.Statement.{statement}
 use Rattle.api_versions.proofs.response.tail_at.Tie as tie
 
-throttle-at-requires : tie.Need-throttle-at-requires
-throttle-at-requires c κs = search needs
+int32-if-requires : tie.Need-int32-if-requires
+int32-if-requires c κs = search needs
 
 enum-known-throttle : tie.Need-enum-known-throttle
 enum-known-throttle c = search needs
@@ -26,22 +26,22 @@ same-length : tie.Need-same-length
 same-length c = search needs
 
 returns : tie.Need-returns
-returns c = tail-took _ _ _ _ _ _ _ (c .before .before .before .before .before .before .before .before .before .before .throttle-at .ensures) _ _ (c .before .before .before .before .before .before .before .before .throttle .given .1) _ _ (c .before .before .before .before .before .tags-if .ensures) _ _ _ (c .before .count .given .1)
+returns c = tail-took _ _ _ _ _ _ _ (c .before .before .before .before .before .before .before .before .before .before .int32-if .ensures) _ _ (c .before .before .before .before .before .before .before .before .throttle .given .1) _ _ (c .before .before .before .before .before .tags-if .ensures) _ _ _ (c .before .count .given .1)
 
 same-length-2 : tie.Need-same-length-2
 same-length-2 c = search needs
 
 returns-2 : tie.Need-returns-2
-returns-2 c = tail-no-tags _ _ _ _ _ _ _ (c .before .before .before .before .before .before .before .before .before .before .throttle-at .ensures) _ _ (c .before .before .before .before .before .before .before .before .throttle .given .1) _ _ (c .before .before .before .before .before .tags-if .ensures) _ (c .before .e .given .1)
+returns-2 c = tail-no-tags _ _ _ _ _ _ _ (c .before .before .before .before .before .before .before .before .before .before .int32-if .ensures) _ _ (c .before .before .before .before .before .before .before .before .throttle .given .1) _ _ (c .before .before .before .before .before .tags-if .ensures) _ (c .before .e .given .1)
 
 returns-3 : tie.Need-returns-3
-returns-3 c = tail-no _ _ _ _ _ _ _ (c .before .before .before .throttle-at .ensures) _ (c .before .e2 .given .1)
+returns-3 c = tail-no _ _ _ _ _ _ _ (c .before .before .before .int32-if .ensures) _ (c .before .e2 .given .1)
 
 pub tail-at-spec : {M : Type 1} → statement M
 tail-at-spec =
     tie.close
     (tie.spec
-    throttle-at-requires
+    int32-if-requires
     enum-known-throttle
     tags-if-requires
     enum-known-count

@@ -15,17 +15,17 @@ rows-told-requires c κs = search needs
 returns-2 : tie.Need-returns-2
 returns-2 c = good-few _ _ _ _ _ (c .before .rows-told .ensures) (c .if2 .taken)
 
-do-tell-requires : tie.Need-do-tell-requires
-do-tell-requires c κs = search needs
+do-items-tell-requires : tie.Need-do-items-tell-requires
+do-items-tell-requires c κs = search needs
 
 returns-3 : tie.Need-returns-3
-returns-3 c = good-untold _ _ _ _ _ (c .before .before .before .rows-told .ensures) (c .before .before .before .before .if1 .left) (c .before .before .if2 .left) (omega arith) (omega arith) _ (c .before .do-tell .ensures) (not-true _ (c .if3 .taken))
+returns-3 c = good-untold _ _ _ _ _ (c .before .before .before .rows-told .ensures) (c .before .before .before .before .if1 .left) (c .before .before .if2 .left) (omega arith) (omega arith) _ (c .before .do-items-tell .ensures) (not-true _ (c .if3 .taken))
 
 all-ranged-requires : tie.Need-all-ranged-requires
 all-ranged-requires c κs = search needs
 
 returns-4 : tie.Need-returns-4
-returns-4 c = good-last _ _ _ _ _ (c .before .before .before .before .rows-told .ensures) (c .before .before .before .before .before .if1 .left) (c .before .before .before .if2 .left) (omega arith) (omega arith) _ (c .before .before .do-tell .ensures) (not-false _ (c .before .if3 .left)) _ (c .all-ranged .ensures)
+returns-4 c = good-last _ _ _ _ _ (c .before .before .before .before .rows-told .ensures) (c .before .before .before .before .before .if1 .left) (c .before .before .before .if2 .left) (omega arith) (omega arith) _ (c .before .before .do-items-tell .ensures) (not-false _ (c .before .if3 .left)) _ (c .all-ranged .ensures)
 
 pub is-good-spec : {M : Type 1} → statement M
 is-good-spec =
@@ -34,7 +34,7 @@ is-good-spec =
     returns
     rows-told-requires
     returns-2
-    do-tell-requires
+    do-items-tell-requires
     returns-3
     all-ranged-requires
     returns-4)

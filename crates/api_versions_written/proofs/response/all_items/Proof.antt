@@ -14,7 +14,7 @@ abbrev μ-loop : tie.MeasureT-loop
 μ-loop out₀ flexible lent items tags done₀ left₀ free₀ out done left free = length left
 
 loop-holds : tie.Need-loop-holds Inv-loop μ-loop
-loop-holds c = going-start _ _ _ _ _ (c .before .before .before .before .pre)
+loop-holds c = going-start _ (c .before .before .before .before .args .flexible) _ _ _ (c .before .before .before .before .pre)
 
 behind-requires : tie.Need-behind-requires Inv-loop μ-loop
 behind-requires c κs = search needs
@@ -29,7 +29,7 @@ part-item-end : tie.Need-part-item-end Inv-loop μ-loop
 part-item-end c = search needs
 
 item-requires : tie.Need-item-requires Inv-loop μ-loop
-item-requires c κs = (c .before .before .loop-test .taken, going-enough _ _ _ _ (c .before .before .before .loop .inv) (c .before .before .loop-test .taken))
+item-requires c κs = (c .before .before .loop-test .taken, going-enough _ (c .before .before .before .before .before .before .before .before .args .flexible) _ _ (c .before .before .before .loop .inv) (c .before .before .loop-test .taken))
 
 add-requires : tie.Need-add-requires Inv-loop μ-loop
 add-requires c κs = search needs
@@ -38,16 +38,16 @@ shared-slice-read-tag-cells : tie.Need-shared-slice-read-tag-cells Inv-loop μ-l
 shared-slice-read-tag-cells c = search needs
 
 tag-cells-requires : tie.Need-tag-cells-requires Inv-loop μ-loop
-tag-cells-requires c κs = omega (arith, going-enough _ _ _ _ (c .before .before .before .before .before .before .before .before .loop .inv) (c .before .before .before .before .before .before .before .loop-test .taken))
+tag-cells-requires c κs = omega (arith, going-enough _ (c .before .before .before .before .before .before .before .before .before .before .before .before .before .args .flexible) _ _ (c .before .before .before .before .before .before .before .before .loop .inv) (c .before .before .before .before .before .before .before .loop-test .taken))
 
 mul-free : tie.Need-mul-free Inv-loop μ-loop
-mul-free c = omega (arith, c .tag-cells .ensures, cells-most (c .before .before .before .before .before .before .before .before .before .before .before .before .before .before .args .flexible) (getD (c .before .before .before .before .before .before .before .before .before .loop .left .now) 3 0), going-enough _ _ _ _ (c .before .before .before .before .before .before .before .before .before .loop .inv) (c .before .before .before .before .before .before .before .before .loop-test .taken))
+mul-free c = omega (arith, c .tag-cells .ensures, cells-most (c .before .before .before .before .before .before .before .before .before .before .before .before .before .before .args .flexible) (getD (c .before .before .before .before .before .before .before .before .before .loop .left .now) 3 0), going-enough _ (c .before .before .before .before .before .before .before .before .before .before .before .before .before .before .args .flexible) _ _ (c .before .before .before .before .before .before .before .before .before .loop .inv) (c .before .before .before .before .before .before .before .before .loop-test .taken))
 
 sub-free : tie.Need-sub-free Inv-loop μ-loop
-sub-free c = omega (arith, c .tag-cells .ensures, cells-most (c .before .before .before .before .before .before .before .before .before .before .before .before .before .before .args .flexible) (getD (c .before .before .before .before .before .before .before .before .before .loop .left .now) 3 0), going-enough _ _ _ _ (c .before .before .before .before .before .before .before .before .before .loop .inv) (c .before .before .before .before .before .before .before .before .loop-test .taken))
+sub-free c = omega (arith, c .tag-cells .ensures, cells-most (c .before .before .before .before .before .before .before .before .before .before .before .before .before .before .args .flexible) (getD (c .before .before .before .before .before .before .before .before .before .loop .left .now) 3 0), going-enough _ (c .before .before .before .before .before .before .before .before .before .before .before .before .before .before .args .flexible) _ _ (c .before .before .before .before .before .before .before .before .before .loop .inv) (c .before .before .before .before .before .before .before .before .loop-test .taken))
 
 part-free-start : tie.Need-part-free-start Inv-loop μ-loop
-part-free-start c = omega (arith, c .tag-cells .ensures, cells-most (c .before .before .before .before .before .before .before .before .before .before .before .before .before .before .args .flexible) (getD (c .before .before .before .before .before .before .before .before .before .loop .left .now) 3 0), going-enough _ _ _ _ (c .before .before .before .before .before .before .before .before .before .loop .inv) (c .before .before .before .before .before .before .before .before .loop-test .taken))
+part-free-start c = omega (arith, c .tag-cells .ensures, cells-most (c .before .before .before .before .before .before .before .before .before .before .before .before .before .before .args .flexible) (getD (c .before .before .before .before .before .before .before .before .before .loop .left .now) 3 0), going-enough _ (c .before .before .before .before .before .before .before .before .before .before .before .before .before .before .args .flexible) _ _ (c .before .before .before .before .before .before .before .before .before .loop .inv) (c .before .before .before .before .before .before .before .before .loop-test .taken))
 
 part-free-end : tie.Need-part-free-end Inv-loop μ-loop
 part-free-end c = search needs
@@ -65,13 +65,13 @@ loop-less : tie.Need-loop-less Inv-loop μ-loop
 loop-less c = search needs
 
 loop-again : tie.Need-loop-again Inv-loop μ-loop
-loop-again c = going-more _ _ _ _ (c .before .before .before .before .before .before .before .before .before .before .before .loop .inv) (c .before .before .before .before .before .before .before .before .before .before .loop-test .taken) _ (c .before .before .before .before .before .before .before .before .before .behind .ensures) (c .before .before .before .before .before .before .before .item .ensures) _ (c .before .before .before .before .add .ensures) _ (c .before .before .tag-cells .ensures)
+loop-again c = going-more _ (c .before .before .before .before .before .before .before .before .before .before .before .before .before .before .before .before .args .flexible) _ _ (c .before .before .before .before .before .before .before .before .before .before .before .loop .inv) (c .before .before .before .before .before .before .before .before .before .before .loop-test .taken) _ (c .before .before .before .before .before .before .before .before .before .behind .ensures) (c .before .before .before .before .before .before .before .item .ensures) _ (c .before .before .before .before .add .ensures) _ (c .before .before .tag-cells .ensures)
 
 same-length : tie.Need-same-length Inv-loop μ-loop
 same-length c = search needs
 
 returns : tie.Need-returns Inv-loop μ-loop
-returns c = going-end _ _ _ _ (c .before .loop .inv) (c .loop-test .left)
+returns c = going-end _ (c .before .before .before .before .before .before .args .flexible) _ _ (c .before .loop .inv) (c .loop-test .left)
 
 pub all-items-spec : {M : Type 1} → statement M
 all-items-spec =

@@ -18,8 +18,8 @@ at-requires c κs = search needs
 returns : tie.Need-returns
 returns c = unwritten _ _ _ (c .before .before .version-of .ensures ∙ ap versionOf (toZ-ofZ (c .before .before .before .before .before .before .before .fits .version))) (c .before .if1 .taken) _ _ _ _ (c .at .ensures)
 
-time-requires : tie.Need-time-requires
-time-requires c κs = search needs
+given-requires : tie.Need-given-requires
+given-requires c κs = search needs
 
 written-requires : tie.Need-written-requires
 written-requires c κs = search needs
@@ -28,7 +28,7 @@ same-length : tie.Need-same-length
 same-length c = search needs
 
 returns-2 : tie.Need-returns-2
-returns-2 c = response-written (c .before .before .before .before .before .before .before .before .before .before .before .args .lent .now) _ _ (c .before .before .before .before .before .before .before .before .before .before .before .args .body .tags) (c .before .before .before .before .before .before .before .before .before .before .before .args .items .now) (c .before .before .before .before .before .before .before .before .before .before .before .args .tags .now) _ (omega arith) (λ i. omega (arith, c .before .before .before .before .before .before .before .before .shared-slice-known2 .given i)) (λ i. omega (arith, c .before .before .before .before .before .before .before .shared-slice-known3 .given i)) (omega arith) _ (c .before .before .before .before .before .if1 .left) (c .before .before .before .before .before .before .before .before .before .before .before .args .body .throttle) _ (c .before .before .before .before .before .before .version-of .ensures ∙ ap versionOf (toZ-ofZ (c .before .before .before .before .before .before .before .before .before .before .before .fits .version))) (c .before .before .before .before .time .ensures) _ (c .before .before .written .ensures)
+returns-2 c = response-written (c .before .before .before .before .before .before .before .before .before .before .before .args .lent .now) _ _ (c .before .before .before .before .before .before .before .before .before .before .before .args .body .tags) (c .before .before .before .before .before .before .before .before .before .before .before .args .items .now) (c .before .before .before .before .before .before .before .before .before .before .before .args .tags .now) _ (omega arith) (λ i. omega (arith, c .before .before .before .before .before .before .before .before .shared-slice-known2 .given i)) (λ i. omega (arith, c .before .before .before .before .before .before .before .shared-slice-known3 .given i)) (omega arith) _ (c .before .before .before .before .before .if1 .left) (c .before .before .before .before .before .before .before .before .before .before .before .args .body .throttle) _ (c .before .before .before .before .before .before .version-of .ensures ∙ ap versionOf (toZ-ofZ (c .before .before .before .before .before .before .before .before .before .before .before .fits .version))) (c .before .before .before .before .given .ensures) _ (c .before .before .written .ensures)
 
 pub write-spec : {M : Type 1} → statement M
 write-spec =
@@ -37,7 +37,7 @@ write-spec =
     version-of-requires
     at-requires
     returns
-    time-requires
+    given-requires
     written-requires
     same-length
     returns-2)

@@ -14,21 +14,21 @@ element-copy-out-t4 c = search needs
 element-copy-out-t7 : tie.Need-element-copy-out-t7
 element-copy-out-t7 c = search needs
 
-element-copy-out-throttle-of : tie.Need-element-copy-out-throttle-of
-element-copy-out-throttle-of c = search needs
+element-copy-out-of-row : tie.Need-element-copy-out-of-row
+element-copy-out-of-row c = search needs
 
-element-copy-out-throttle-of-2 : tie.Need-element-copy-out-throttle-of-2
-element-copy-out-throttle-of-2 c = search needs
+element-copy-out-of-row-2 : tie.Need-element-copy-out-of-row-2
+element-copy-out-of-row-2 c = search needs
 
-throttle-of-requires : tie.Need-throttle-of-requires
-throttle-of-requires c κs = search needs
+of-row-requires : tie.Need-of-row-requires
+of-row-requires c κs = search needs
 
 element-copy-out-t17 : tie.Need-element-copy-out-t17
 element-copy-out-t17 c = search needs
 
 returns : tie.Need-returns
 unfolding responseRow
-returns c = ap (λ (t : List ℕ). getD (c .before .before .before .before .before .before .args .row .now) 0 0 ∷ getD (c .before .before .before .before .before .before .args .row .now) 1 0 ∷ (t ++ (getD (c .before .before .before .before .before .before .args .row .now) 4 0 ∷ []))) (c .before .throttle-of .ensures)
+returns c = ap (λ (t : List ℕ). getD (c .before .before .before .before .before .before .args .row .now) 0 0 ∷ getD (c .before .before .before .before .before .before .args .row .now) 1 0 ∷ (t ++ (getD (c .before .before .before .before .before .before .args .row .now) 4 0 ∷ []))) (c .before .of-row .ensures)
 
 pub body-of-spec : {M : Type 1} → statement M
 body-of-spec =
@@ -36,8 +36,8 @@ body-of-spec =
     (tie.spec
     element-copy-out-t4
     element-copy-out-t7
-    element-copy-out-throttle-of
-    element-copy-out-throttle-of-2
-    throttle-of-requires
+    element-copy-out-of-row
+    element-copy-out-of-row-2
+    of-row-requires
     element-copy-out-t17
     returns)

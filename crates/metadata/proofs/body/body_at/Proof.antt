@@ -1,22 +1,14 @@
--- The throttle time, the number of brokers, the brokers, and what stands behind them.
-use mathlib.Core.Path.{_∙_, ap, sym}
-use Rattle.primitives.specs.Answers.{ofNumber}
-use Rattle.metadata.proofs.Around.{body-is, brokers-bad, no-brokers, no-throttle}
+-- The throttle time and the number of brokers, the brokers, and what stands behind them.
+use Rattle.metadata.proofs.Around.{body-is, brokers-bad, no-front}
 use borrow.Author.Needs.{needs}
 use Rattle.metadata.proofs.body.body_at.Statement.{statement}
 use Rattle.metadata.proofs.body.body_at.Tie as tie
 
-int32-if-requires : tie.Need-int32-if-requires
-int32-if-requires c κs = search needs
+front-of-requires : tie.Need-front-of-requires
+front-of-requires c κs = search needs
 
 enum-known-throttle : tie.Need-enum-known-throttle
 enum-known-throttle c = search needs
-
-items-at-requires : tie.Need-items-at-requires
-items-at-requires c κs = search needs
-
-enum-known-count : tie.Need-enum-known-count
-enum-known-count c = search needs
 
 brokers-in-requires : tie.Need-brokers-in-requires
 brokers-in-requires c κs = search needs
@@ -36,9 +28,6 @@ enum-known-e c = search needs
 enum-known-e-2 : tie.Need-enum-known-e-2
 enum-known-e-2 c = search needs
 
-enum-known-e-3 : tie.Need-enum-known-e-3
-enum-known-e-3 c = search needs
-
 same-length : tie.Need-same-length
 same-length c = search needs
 
@@ -55,35 +44,29 @@ same-length-5 : tie.Need-same-length-5
 same-length-5 c = search needs
 
 returns : tie.Need-returns
-returns c = body-is _ _ _ _ _ _ _ _ (c .before .before .before .before .before .before .before .before .before .before .before .before .before .before .before .before .before .before .before .before .before .before .before .before .before .before .before .before .int32-if .ensures) _ _ (c .before .before .before .before .before .before .before .before .before .before .before .before .before .before .before .before .before .before .before .before .before .before .before .before .before .before .throttle .given .1) _ _ (ap ofNumber (sym (c .before .before .before .before .before .before .before .before .before .before .before .before .before .before .before .before .before .before .before .before .before .before .count .given .1)) ∙ c .before .before .before .before .before .before .before .before .before .before .before .before .before .before .before .before .before .before .before .before .before .before .before .before .items-at .ensures) _ _ (c .before .before .before .before .before .before .before .before .before .before .before .before .before .before .before .before .before .before .before .brokers-in .ensures) _ _ (c .before .before .before .before .before .before .before .before .before .before .before .before .before .before .before .next .given .1) _ _ _ _ (c .before .before .before .before .before .before .before .before .before .tail-at .result) (c .before .before .before .before .before .before .before .before .before .tail-at .ensures) _ (c .finished .ensures)
+returns c = body-is _ _ _ _ _ _ _ _ (c .before .before .before .before .before .before .before .before .before .before .before .before .before .before .before .before .before .before .before .before .before .before .before .before .front-of .ensures) _ _ _ (c .before .before .before .before .before .before .before .before .before .before .before .before .before .before .before .before .before .before .before .before .before .before .throttle .given .1) _ _ (c .before .before .before .before .before .before .before .before .before .before .before .before .before .before .before .before .before .before .before .brokers-in .ensures) _ _ (c .before .before .before .before .before .before .before .before .before .before .before .before .before .before .before .next .given .1) _ _ _ _ (c .before .before .before .before .before .before .before .before .before .tail-at .result) (c .before .before .before .before .before .before .before .before .before .tail-at .ensures) _ (c .finished .ensures)
 
 same-length-6 : tie.Need-same-length-6
 same-length-6 c = search needs
 
 returns-2 : tie.Need-returns-2
-returns-2 c = brokers-bad _ _ _ _ _ _ _ _ (c .before .before .before .before .before .before .before .before .before .before .before .before .before .before .int32-if .ensures) _ _ (c .before .before .before .before .before .before .before .before .before .before .before .before .throttle .given .1) _ _ (ap ofNumber (sym (c .before .before .before .before .before .before .before .before .count .given .1)) ∙ c .before .before .before .before .before .before .before .before .before .before .items-at .ensures) _ _ (c .before .before .before .before .before .brokers-in .ensures) _ (c .before .e .given .1)
+returns-2 c = brokers-bad _ _ _ _ _ _ _ _ (c .before .before .before .before .before .before .before .before .before .before .front-of .ensures) _ _ _ (c .before .before .before .before .before .before .before .before .throttle .given .1) _ _ (c .before .before .before .before .before .brokers-in .ensures) _ (c .before .e .given .1)
 
 returns-3 : tie.Need-returns-3
-returns-3 c = no-brokers _ _ _ _ _ _ _ _ (c .before .before .before .before .before .before .before .int32-if .ensures) _ _ (c .before .before .before .before .before .throttle .given .1) _ (ap ofNumber (sym (c .before .e2 .given .1)) ∙ c .before .before .before .items-at .ensures)
-
-returns-4 : tie.Need-returns-4
-returns-4 c = no-throttle _ _ _ _ _ _ _ _ (c .before .before .before .int32-if .ensures) _ (c .before .e3 .given .1)
+returns-3 c = no-front _ _ _ _ _ _ _ _ (c .before .before .before .front-of .ensures) _ (c .before .e2 .given .1)
 
 pub body-at-spec : {M : Type 1} → statement M
 body-at-spec =
     tie.close
     (tie.spec
-    int32-if-requires
+    front-of-requires
     enum-known-throttle
-    items-at-requires
-    enum-known-count
     brokers-in-requires
     enum-known-next
     tail-at-requires
     finished-requires
     enum-known-e
     enum-known-e-2
-    enum-known-e-3
     same-length
     same-length-2
     same-length-3
@@ -92,5 +75,4 @@ body-at-spec =
     returns
     same-length-6
     returns-2
-    returns-3
-    returns-4)
+    returns-3)

@@ -1,6 +1,10 @@
 -- The version first, then the size, then the bytes.
-use Rattle.primitives.proofs.Versions.{passed}
-use Rattle.metadata.proofs.Replies.{measure-at, measure-long, measure-unknown}
+use mathlib.Core.Path.{_∙_, ap}
+use native.Mathlib.Omega.{arith}
+use Rattle.layout.specs.Messages.Metadata as Meta
+use Rattle.primitives.specs.Answers.{versionOf}
+use Rattle.primitives.proofs.Versions.{known, passed}
+use Rattle.rows.proofs.Metered.{metered-long, metered-same, metered-unknown}
 use borrow.Author.Needs.{needs}
 use Rattle.metadata.proofs.response.measure.Statement.{statement}
 use Rattle.metadata.proofs.response.measure.Tie as tie
@@ -12,19 +16,19 @@ at-requires : tie.Need-at-requires
 at-requires c κs = search needs
 
 returns : tie.Need-returns
-returns c = measure-unknown _ _ (passed _ (c .before .before .before .before .fits .version) _ (c .before .before .version-of .ensures)) _ _ (c .before .if1 .taken) (c .at .ensures)
+returns c = metered-unknown Meta.response _ _ _ _ (λ n i. passed _ (c .before .before .before .before .fits .version) _ (c .before .before .version-of .ensures) ∙ ap versionOf i) (c .before .if1 .taken) (c .at .ensures)
 
 at-requires-2 : tie.Need-at-requires-2
 at-requires-2 c κs = search needs
 
 returns-2 : tie.Need-returns-2
-returns-2 c = measure-long _ _ (passed _ (c .before .before .before .before .before .fits .version) _ (c .before .before .before .version-of .ensures)) _ _ (c .before .before .if1 .left) (c .before .if2 .taken) (c .at2 .ensures)
+returns-2 c = metered-long Meta.response _ _ _ _ (known Meta.response _ _ (passed _ (c .before .before .before .before .before .fits .version) _ (c .before .before .before .version-of .ensures)) (c .before .before .if1 .left) (omega arith)) (c .before .before .if1 .left) (c .before .if2 .taken) (c .at2 .ensures)
 
 walked-requires : tie.Need-walked-requires
 walked-requires c κs = search needs
 
 returns-3 : tie.Need-returns-3
-returns-3 c = measure-at _ _ (passed _ (c .before .before .before .before .before .fits .version) _ (c .before .before .before .version-of .ensures)) (c .before .before .if1 .left) _ _ (c .walked .ensures)
+returns-3 c = metered-same Meta.response _ _ _ (known Meta.response _ _ (passed _ (c .before .before .before .before .before .fits .version) _ (c .before .before .before .version-of .ensures)) (c .before .before .if1 .left) (omega arith)) _ (c .walked .ensures)
 
 pub measure-spec : {M : Type 1} → statement M
 measure-spec =

@@ -1,5 +1,5 @@
 -- Table by table, in their order.
-use Rattle.metadata.proofs.Replies.{short-brokers, short-none, short-partitions, short-replicas, short-synced, short-topics}
+use Rattle.metadata.proofs.Replies.{short-brokers, short-nowhere, short-partitions, short-replicas, short-synced, short-topics}
 use Rattle.metadata.proofs.response.room_for.Statement.{statement}
 use Rattle.metadata.proofs.response.room_for.Tie as tie
 
@@ -19,7 +19,7 @@ returns-5 : tie.Need-returns-5
 returns-5 c = short-synced _ _ _ _ _ _ _ (c .before .before .before .before .before .before .before .before .if1 .left) (c .before .before .before .before .before .before .if2 .left) (c .before .before .before .before .if3 .left) (c .before .before .if4 .left) (c .if5 .taken)
 
 returns-6 : tie.Need-returns-6
-returns-6 c = short-none _ _ _ _ _ _ _ (c .before .before .before .before .before .before .before .before .if1 .left) (c .before .before .before .before .before .before .if2 .left) (c .before .before .before .before .if3 .left) (c .before .before .if4 .left) (c .if5 .left)
+returns-6 c = short-nowhere _ _ _ _ _ _ _ (c .before .before .before .before .before .before .before .before .if1 .left) (c .before .before .before .before .before .before .if2 .left) (c .before .before .before .before .if3 .left) (c .before .before .if4 .left) (c .if5 .left)
 
 pub room-for-spec : {M : Type 1} → statement M
 room-for-spec = tie.close (tie.spec returns returns-2 returns-3 returns-4 returns-5 returns-6)

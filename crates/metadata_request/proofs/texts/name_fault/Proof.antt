@@ -28,8 +28,8 @@ shared-slice-read-part-2 c = search needs
 part-requires : tie.Need-part-requires
 part-requires c κs = search needs
 
-text-fault-requires : tie.Need-text-fault-requires
-text-fault-requires c κs = search needs
+string-fault-requires : tie.Need-string-fault-requires
+string-fault-requires c κs = search needs
 
 returns : tie.Need-returns
 returns c = search (needs, fault-told)
@@ -46,5 +46,5 @@ name-fault-spec =
     mul-part-4
     shared-slice-read-part-2
     part-requires
-    text-fault-requires
+    string-fault-requires
     returns)

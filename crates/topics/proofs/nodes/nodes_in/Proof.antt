@@ -4,16 +4,15 @@ use mathlib.Core.Bool.{false}
 use lib.ListN.{length}
 use borrow.Author.Needs.{needs}
 use Rattle.primitives.specs.Answers.{ofNumber}
-use Rattle.rows.specs.Walk.{walk}
+use Rattle.rows.specs.Walk.{inPlace, walk}
 use Rattle.rows.proofs.Loops.{Going, going-done, going-start}
 use Rattle.topics.specs.Shapes.{nodeShape}
-use Rattle.topics.specs.Walks.{inNodes}
 use Rattle.topics.proofs.NodeRows.{nodes-next, nodes-no}
 use Rattle.topics.proofs.nodes.nodes_in.Statement.{statement}
 use Rattle.topics.proofs.nodes.nodes_in.Tie as tie
 
 abbrev Inv-loop : tie.InvT-loop
-Inv-loop s p count table₀ mark left₀ place₀ behind₀ table left place behind = Going (λ e. walk false nodeShape (e .o)) s count p (inNodes table₀ mark) left place (inNodes table behind) × (length table ≡ length table₀)
+Inv-loop s p count table₀ mark left₀ place₀ behind₀ table left place behind = Going (λ e. walk false nodeShape (e .o)) s count p (inPlace table₀ mark) left place (inPlace table behind) × (length table ≡ length table₀)
 
 abbrev μ-loop : tie.MeasureT-loop
 μ-loop s p count table₀ mark left₀ place₀ behind₀ table left place behind = left

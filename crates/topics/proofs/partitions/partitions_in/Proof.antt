@@ -1,19 +1,23 @@
 -- What is left to read from here is what was asked at the start. Every turn takes one from `left`, so the loop ends, if not by a refusal.
+use mathlib.Core.Bool.{false}
 use mathlib.Core.Path.{_≡_, refl}
 use lib.ListN.{length}
 use borrow.Author.Needs.{needs}
-use Rattle.topics.proofs.PartitionTurns.{Left, left-all, left-next, left-no, left-none}
+use Rattle.rows.specs.Walk.{walk}
+use Rattle.rows.proofs.Loops.{Going, going-done, going-start, turn-next, turn-no}
+use Rattle.topics.specs.Shapes.{partitionShape}
+use Rattle.topics.specs.Walks.{inPartitions, partitionsIs}
 use Rattle.topics.proofs.partitions.partitions_in.Statement.{statement}
 use Rattle.topics.proofs.partitions.partitions_in.Tie as tie
 
 abbrev Inv-loop : tie.InvT-loop
-Inv-loop s p count partitions₀ replicas₀ synced₀ left₀ place₀ behind₀ partitions replicas synced left place behind = Left s count p partitions₀ replicas₀ synced₀ behind₀ left place partitions replicas synced behind × ((length partitions ≡ length partitions₀) × ((length replicas ≡ length replicas₀) × (length synced ≡ length synced₀)))
+Inv-loop s p count partitions₀ replicas₀ synced₀ left₀ place₀ behind₀ partitions replicas synced left place behind = Going (λ e. walk false partitionShape 3) s count p (inPartitions partitions₀ replicas₀ synced₀ behind₀) left place (inPartitions partitions replicas synced behind) × ((length partitions ≡ length partitions₀) × ((length replicas ≡ length replicas₀) × (length synced ≡ length synced₀)))
 
 abbrev μ-loop : tie.MeasureT-loop
 μ-loop s p count partitions₀ replicas₀ synced₀ left₀ place₀ behind₀ partitions replicas synced left place behind = left
 
 loop-holds : tie.Need-loop-holds Inv-loop μ-loop
-loop-holds c = (left-all _ _ _ _ _ _ _, (refl, (refl, refl)))
+loop-holds c = (going-start _ _ _ _ _, (refl, (refl, refl)))
 
 partition-at-requires : tie.Need-partition-at-requires Inv-loop μ-loop
 partition-at-requires c κs = tt
@@ -28,7 +32,7 @@ loop-less : tie.Need-loop-less Inv-loop μ-loop
 loop-less c = search needs
 
 loop-again : tie.Need-loop-again Inv-loop μ-loop
-loop-again c = (left-next _ _ _ _ _ _ _ _ _ _ _ _ _ (c .before .before .before .before .before .before .before .before .before .before .before .before .before .before .loop .inv .0) (c .before .before .before .before .before .before .before .before .before .before .before .before .before .loop-test .taken) _ _ _ _ (c .before .before .before .before .before .before .before .before .before .partition-at .ensures) _ _ (c .before .next .given .1), (search needs, (search needs, search needs)))
+loop-again c = (turn-next _ _ _ _ _ _ _ _ (c .before .before .before .before .before .before .before .before .before .before .before .before .before .before .loop .inv .0) (c .before .before .before .before .before .before .before .before .before .before .before .before .before .loop-test .taken) (partitionsIs _ _ _) _ _ (c .before .before .before .before .before .before .before .before .before .partition-at .ensures) (c .before .next .given .1) _ (λ e. refl), (search needs, (search needs, search needs)))
 
 enum-known-e : tie.Need-enum-known-e Inv-loop μ-loop
 enum-known-e c = search needs
@@ -43,7 +47,7 @@ same-length-3 : tie.Need-same-length-3 Inv-loop μ-loop
 same-length-3 c = search needs
 
 returns : tie.Need-returns Inv-loop μ-loop
-returns c = left-no _ _ _ _ _ _ _ _ _ _ _ _ _ (c .before .before .before .before .before .before .before .before .before .before .before .before .before .before .loop .inv .0) (c .before .before .before .before .before .before .before .before .before .before .before .before .before .loop-test .taken) _ _ _ _ (c .before .before .before .before .before .before .before .before .before .partition-at .ensures) _ (c .before .e .given .1)
+returns c = turn-no _ _ _ _ _ _ _ _ (c .before .before .before .before .before .before .before .before .before .before .before .before .before .before .loop .inv .0) (c .before .before .before .before .before .before .before .before .before .before .before .before .before .loop-test .taken) (partitionsIs _ _ _) _ _ (c .before .before .before .before .before .before .before .before .before .partition-at .ensures) (c .before .e .given .1) (λ e. refl)
 
 same-length-4 : tie.Need-same-length-4 Inv-loop μ-loop
 same-length-4 c = search needs
@@ -55,7 +59,7 @@ same-length-6 : tie.Need-same-length-6 Inv-loop μ-loop
 same-length-6 c = search needs
 
 returns-2 : tie.Need-returns-2 Inv-loop μ-loop
-returns-2 c = left-none _ _ _ _ _ _ _ _ _ _ _ _ _ (c .before .loop .inv .0) (c .loop-test .left)
+returns-2 c = going-done _ _ _ _ _ _ _ _ (c .before .loop .inv .0) (c .loop-test .left)
 
 pub partitions-in-spec : {M : Type 1} → statement M
 partitions-in-spec =

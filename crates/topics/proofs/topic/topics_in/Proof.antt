@@ -1,19 +1,23 @@
 -- What is left to read from here is what was asked at the start. Every turn takes one from `left`, so the loop ends, if not by a refusal.
+use mathlib.Core.Bool.{false}
 use mathlib.Core.Path.{_≡_, refl}
 use lib.ListN.{length}
 use borrow.Author.Needs.{needs}
-use Rattle.topics.proofs.TopicTurns.{Left, left-all, left-next, left-no, left-none}
+use Rattle.rows.specs.Walk.{walk}
+use Rattle.rows.proofs.Loops.{Going, going-done, going-start, turn-next, turn-no}
+use Rattle.topics.specs.Shapes.{topicShape}
+use Rattle.topics.specs.Walks.{inTopics, noMarks, topicsIs}
 use Rattle.topics.proofs.topic.topics_in.Statement.{statement}
 use Rattle.topics.proofs.topic.topics_in.Tie as tie
 
 abbrev Inv-loop : tie.InvT-loop
-Inv-loop s p flagged count topics₀ partitions₀ replicas₀ synced₀ left₀ place₀ behind₀ topics partitions replicas synced left place behind = Left flagged s count p topics₀ partitions₀ replicas₀ synced₀ left place topics partitions replicas synced behind × ((length topics ≡ length topics₀) × ((length partitions ≡ length partitions₀) × ((length replicas ≡ length replicas₀) × (length synced ≡ length synced₀))))
+Inv-loop s p flagged count topics₀ partitions₀ replicas₀ synced₀ left₀ place₀ behind₀ topics partitions replicas synced left place behind = Going (λ e. walk false (topicShape flagged) 2) s count p (inTopics topics₀ partitions₀ replicas₀ synced₀ noMarks) left place (inTopics topics partitions replicas synced behind) × ((length topics ≡ length topics₀) × ((length partitions ≡ length partitions₀) × ((length replicas ≡ length replicas₀) × (length synced ≡ length synced₀))))
 
 abbrev μ-loop : tie.MeasureT-loop
 μ-loop s p flagged count topics₀ partitions₀ replicas₀ synced₀ left₀ place₀ behind₀ topics partitions replicas synced left place behind = left
 
 loop-holds : tie.Need-loop-holds Inv-loop μ-loop
-loop-holds c = (left-all _ _ _ _ _ _ _ _, (refl, (refl, (refl, refl))))
+loop-holds c = (going-start _ _ _ _ _, (refl, (refl, (refl, refl))))
 
 topic-at-requires : tie.Need-topic-at-requires Inv-loop μ-loop
 topic-at-requires c κs = tt
@@ -28,7 +32,7 @@ loop-less : tie.Need-loop-less Inv-loop μ-loop
 loop-less c = search needs
 
 loop-again : tie.Need-loop-again Inv-loop μ-loop
-loop-again c = (left-next _ _ _ _ _ _ _ _ _ _ _ _ _ _ _ (c .before .before .before .before .before .before .before .before .before .before .before .before .before .before .before .before .before .loop .inv .0) (c .before .before .before .before .before .before .before .before .before .before .before .before .before .before .before .before .loop-test .taken) _ _ _ _ _ (c .before .before .before .before .before .before .before .before .before .before .before .topic-at .ensures) _ _ (c .before .next .given .1), (search needs, (search needs, (search needs, search needs))))
+loop-again c = (turn-next _ _ _ _ _ _ _ _ (c .before .before .before .before .before .before .before .before .before .before .before .before .before .before .before .before .before .loop .inv .0) (c .before .before .before .before .before .before .before .before .before .before .before .before .before .before .before .before .loop-test .taken) (topicsIs _ _ _ _) _ _ (c .before .before .before .before .before .before .before .before .before .before .before .topic-at .ensures) (c .before .next .given .1) _ (λ e. refl), (search needs, (search needs, (search needs, search needs))))
 
 enum-known-e : tie.Need-enum-known-e Inv-loop μ-loop
 enum-known-e c = search needs
@@ -46,7 +50,7 @@ same-length-4 : tie.Need-same-length-4 Inv-loop μ-loop
 same-length-4 c = search needs
 
 returns : tie.Need-returns Inv-loop μ-loop
-returns c = left-no _ _ _ _ _ _ _ _ _ _ _ _ _ _ _ (c .before .before .before .before .before .before .before .before .before .before .before .before .before .before .before .before .before .loop .inv .0) (c .before .before .before .before .before .before .before .before .before .before .before .before .before .before .before .before .loop-test .taken) _ _ _ _ _ (c .before .before .before .before .before .before .before .before .before .before .before .topic-at .ensures) _ (c .before .e .given .1)
+returns c = turn-no _ _ _ _ _ _ _ _ (c .before .before .before .before .before .before .before .before .before .before .before .before .before .before .before .before .before .loop .inv .0) (c .before .before .before .before .before .before .before .before .before .before .before .before .before .before .before .before .loop-test .taken) (topicsIs _ _ _ _) _ _ (c .before .before .before .before .before .before .before .before .before .before .before .topic-at .ensures) (c .before .e .given .1) (λ e. refl)
 
 same-length-5 : tie.Need-same-length-5 Inv-loop μ-loop
 same-length-5 c = search needs
@@ -61,7 +65,7 @@ same-length-8 : tie.Need-same-length-8 Inv-loop μ-loop
 same-length-8 c = search needs
 
 returns-2 : tie.Need-returns-2 Inv-loop μ-loop
-returns-2 c = left-none _ _ _ _ _ _ _ _ _ _ _ _ _ _ _ (c .before .loop .inv .0) (c .loop-test .left)
+returns-2 c = going-done _ _ _ _ _ _ _ _ (c .before .loop .inv .0) (c .loop-test .left)
 
 pub topics-in-spec : {M : Type 1} → statement M
 topics-in-spec =

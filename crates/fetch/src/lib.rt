@@ -1,0 +1,21 @@
+// Fetch, versions 0 to 4, responses read: topics with their partitions, and these with their aborted transactions.
+// Numbers are cells, as in the tables: 64 bits, two's complement.
+use primitives::Refusal;
+use versioned::Versioned;
+
+pub mod body;
+pub mod response;
+
+pub use response::read;
+
+// The own row of a response: throttle time (from version 1 on), and number of topics.
+pub struct ResponseBody {
+    pub throttle: Versioned,
+    pub topics: u64,
+}
+
+// The own row of a response and the bytes used.
+pub enum ResponseReply {
+    Took { body: ResponseBody, used: usize },
+    Refused(Refusal),
+}

@@ -1,0 +1,79 @@
+-- 11 of a request's numbers, and each way out of the judgement of a whole request.
+use mathlib.Core.Bool.{Bool, _&&_, false, true}
+use mathlib.Core.List.{List, []}
+use mathlib.Core.Path.{_∙_, _≡_, ap, ap₂, refl, sym}
+use Prim.Native.Nat.{_*_, _+_, _/_, _<_, _≤_, ℕ}
+use native.Mathlib.Nat.{add-zero}
+use lib.Dec.{leb, lit<}
+use lib.ListN.{getD, length}
+use Rattle.layout.specs.Primitives.{holds, w32}
+use Rattle.layout.specs.Tables.{rowsOf}
+use Rattle.layout.specs.Write.{or, unless}
+use Rattle.layout.proofs.Tests.{lt-false, lt-true}
+use Rattle.rows.proofs.Chunks.{row-cell}
+use Rattle.writers.specs.Answers.{within}
+use Rattle.fetch_request.specs.Judged.{bothHold, largestHolds, leadFault, leadHolds, levelHolds, limitsFault, limitsHold, partitionHolds, requestFault, requestGood, topicsFault}
+
+pub is-held : (n : ℕ) → within 2147483648 n ≡ holds w32 n
+unfolding within holds
+is-held n = refl
+
+-- two tests in turn
+module _ (a x y : Bool) (e : a ≡ x) where
+  pub and-first : a ≡ false → false ≡ (x && y)
+  and-first h = sym (ap (λ (t : Bool). t && y) (sym e ∙ h))
+
+  pub and-second : a ≡ true → (r : Bool) → r ≡ y → r ≡ (x && y)
+  and-second h r k = k ∙ sym (ap (λ (t : Bool). t && y) (sym e ∙ h))
+
+-- what a version may lack
+module _ (b : Bool) (n : ℕ) where
+  pub largest-there : b ≡ true → (r : Bool) → r ≡ within 2147483648 n → r ≡ largestHolds b n
+  unfolding largestHolds
+  largest-there h r e = e ∙ is-held n ∙ sym (rw h)
+
+  pub largest-lacking : b ≡ false → true ≡ largestHolds b n
+  unfolding largestHolds
+  largest-lacking h = sym (rw h)
+
+  pub level-there : b ≡ true → leb n 1 ≡ levelHolds b n
+  unfolding levelHolds
+  level-there h = sym (rw h)
+
+  pub level-lacking : b ≡ false → true ≡ levelHolds b n
+  unfolding levelHolds
+  level-lacking h = sym (rw h)
+
+-- a partition's numbers, as the table has them
+pub partition-told : (partitions : List ℕ) (i : ℕ) → i < length partitions / 3 → (b : Bool) → b ≡ bothHold (getD partitions (i * 3) 0) (getD partitions (i * 3 + 2) 0) → b ≡ partitionHolds (getD (rowsOf 3 partitions) i [])
+unfolding partitionHolds
+partition-told partitions i h b e =
+    e ∙ sym (ap₂ bothHold (row-cell 3 partitions i h 0 (lit< tt) ∙ ap (λ (k : ℕ). getD partitions k 0) (add-zero (i * 3))) (row-cell 3 partitions i h 2 (lit< tt)))
+
+-- ---- 13, 11, 7 or none of them
+
+module _ (b i : Bool) (lent : List ℕ) (size c replica wait least largest level : ℕ) (topics partitions : List ℕ) (g : Bool) (e : g ≡ requestGood size c topics partitions) where
+  abbrev fault : ℕ
+  fault = requestFault b i lent size c replica wait least largest level topics partitions
+
+  pub fault-bad : g ≡ false → 13 ≡ fault
+  unfolding requestFault
+  fault-bad h = sym (rw (← e, h))
+
+  module _ (h : g ≡ true) (x : Bool) (j : x ≡ leadHolds replica wait least) where
+    pub fault-lead : x ≡ false → 11 ≡ fault
+    unfolding requestFault leadFault unless or
+    fault-lead k = sym (rw (← e, h, ← j, k))
+
+    module _ (k : x ≡ true) (y : Bool) (l : y ≡ limitsHold b i largest level) where
+      pub fault-limits : y ≡ false → 11 ≡ fault
+      unfolding requestFault leadFault limitsFault unless or
+      fault-limits m = sym (rw (← e, h, ← j, k, ← l, m))
+
+      pub fault-many : y ≡ true → 2147483648 ≤ length topics / 3 → 11 ≡ fault
+      unfolding requestFault leadFault limitsFault unless or
+      fault-many m n = sym (rw (← e, h, ← j, k, ← l, m, lt-false (length topics / 3) 2147483648 n))
+
+      pub fault-topics : y ≡ true → length topics / 3 < 2147483648 → (r : ℕ) → r ≡ topicsFault lent topics partitions → r ≡ fault
+      unfolding requestFault leadFault limitsFault unless or
+      fault-topics m n r o = o ∙ sym (rw (← e, h, ← j, k, ← l, m, lt-true (length topics / 3) 2147483648 n))

@@ -1,0 +1,73 @@
+-- The walk over a request: what each part leaves in the output, one behind the other.
+use mathlib.Core.Bool.{Bool, false, true}
+use mathlib.Core.List.{List, [], _++_}
+use mathlib.Core.Path.{_∙_, _≡_, ap, sym}
+use Prim.Native.Nat.{_*_, _+_, _-_, _/_, _<_, min, ℕ}
+use native.Mathlib.Nat.{add-zero}
+use lib.Dec.{lit<}
+use lib.ListN.{getD, length, take}
+use borrow.Rule.Slice.PartMut.{midOf, putMid}
+use Rattle.layout.specs.Primitives.{bytes, lengthBytes}
+use Rattle.layout.specs.Tables.{rowsOf, slice}
+use Rattle.rows.specs.Step.{Capped, cap}
+use Rattle.rows.proofs.Capped.{capped, capped-as, capped-behind}
+use Rattle.rows.proofs.Chunks.{row-cell}
+use Rattle.rows.proofs.Step.{step-nothing}
+use Rattle.put.specs.declared.Form.{Form}
+use Rattle.put.specs.Put.{Put, behindLength, sizeOf}
+use Rattle.put.proofs.Stored.{put-step}
+use Rattle.ranges.specs.Asked.{nameOf}
+use Rattle.fetch_request.specs.Written.{arrayBytes, bytesIf, cellsOf, countedBytes, leadBytes, limitsBytes, partitionBytes, partitionsBytes, requestBytes, restBytes, topicBytes, topicsBytes}
+
+-- ---- what a version may lack
+
+module _ (f : Bool) (k n : ℕ) where
+  pub number-there : f ≡ true → {d d′ : List ℕ} {r : ℕ} → Put (bytes k n) d r d′ → Capped (bytesIf f k n) d r d′
+  unfolding bytesIf
+  number-there h p = rw h (capped (put-step p))
+
+  pub number-lacking : f ≡ false → (d : List ℕ) → Capped (bytesIf f k n) d 0 d
+  unfolding bytesIf
+  number-lacking h d = rw h (capped (step-nothing d))
+
+-- ---- one behind the other, as calls with `&mut out[at..]` leave it
+
+module _ {d d₁ e : List ℕ} {n m : ℕ} (at : ℕ) (h : at ≡ min n (length d₁)) (r : ℕ) (k : cap r ≡ cap (n + m)) where
+  pub two-put : (x y : List ℕ) → Put x d n d₁ → Put y (midOf at (length d₁ - at) d₁) m e → Capped (x ++ y) d r (putMid at (length d₁ - at) d₁ e)
+  two-put x y p q = capped-behind (capped (put-step p)) at h (capped (put-step q)) r k
+
+  -- a row's cells stand in the table from three times its number on
+  pub partition-put : (table : List ℕ) (i : ℕ) → i < length table / 3 → Put (bytes 4 (getD table (i * 3) 0)) d n d₁ → Capped (bytes 8 (getD table (i * 3 + 1) 0) ++ bytes 4 (getD table (i * 3 + 2) 0)) (midOf at (length d₁ - at) d₁) m e → Capped (partitionBytes (getD (rowsOf 3 table) i [])) d r (putMid at (length d₁ - at) d₁ e)
+  unfolding partitionBytes
+  partition-put table i l p q =
+      capped-as (λ t. bytes 4 (sym (row-cell 3 table i l 0 (lit< tt) ∙ ap (λ (j : ℕ). getD table j 0) (add-zero (i * 3))) t) ++ (bytes 8 (sym (row-cell 3 table i l 1 (lit< tt)) t) ++ bytes 4 (sym (row-cell 3 table i l 2 (lit< tt)) t)))
+      (capped-behind (capped (put-step p)) at h q r k)
+
+  pub counted-put : (table : List ℕ) → Put (lengthBytes (sizeOf Form.Int32) (length table / 3)) d n d₁ → Capped (partitionsBytes table) (midOf at (length d₁ - at) d₁) m e → Capped (countedBytes table) d r (putMid at (length d₁ - at) d₁ e)
+  unfolding countedBytes
+  counted-put table p q = capped-behind (capped (put-step p)) at h q r k
+
+  pub topic-put : (lent topics partitions x : List ℕ) (j : ℕ) → j ≡ cellsOf topics → x ≡ slice lent (getD topics 0 0, getD topics 1 0) → Put (behindLength (sizeOf Form.Int16) x) d n d₁ → Capped (countedBytes (take j partitions)) (midOf at (length d₁ - at) d₁) m e → Capped (topicBytes lent topics partitions) d r (putMid at (length d₁ - at) d₁ e)
+  unfolding topicBytes nameOf
+  topic-put lent topics partitions x j i s p q =
+      capped-behind (capped-as (ap (behindLength (sizeOf Form.Int16)) s) (capped (put-step p))) at h (capped-as (ap (λ (y : ℕ). countedBytes (take y partitions)) i) q) r k
+
+  pub array-put : (lent topics partitions : List ℕ) → Put (lengthBytes (sizeOf Form.Int32) (length topics / 3)) d n d₁ → Capped (topicsBytes lent topics partitions) (midOf at (length d₁ - at) d₁) m e → Capped (arrayBytes lent topics partitions) d r (putMid at (length d₁ - at) d₁ e)
+  unfolding arrayBytes
+  array-put lent topics partitions p q = capped-behind (capped (put-step p)) at h q r k
+
+  pub limits-put : (b i : Bool) (largest level : ℕ) → Capped (bytesIf b 4 largest) d n d₁ → Capped (bytesIf i 1 level) (midOf at (length d₁ - at) d₁) m e → Capped (limitsBytes b i largest level) d r (putMid at (length d₁ - at) d₁ e)
+  unfolding limitsBytes
+  limits-put b i largest level p q = capped-behind p at h q r k
+
+  pub lead-put : (replica wait least : ℕ) → Put (bytes 4 replica) d n d₁ → Capped (bytes 4 wait ++ bytes 4 least) (midOf at (length d₁ - at) d₁) m e → Capped (leadBytes replica wait least) d r (putMid at (length d₁ - at) d₁ e)
+  unfolding leadBytes
+  lead-put replica wait least p q = capped-behind (capped (put-step p)) at h q r k
+
+  pub rest-put : (b i : Bool) (lent : List ℕ) (largest level : ℕ) (topics partitions : List ℕ) → Capped (limitsBytes b i largest level) d n d₁ → Capped (arrayBytes lent topics partitions) (midOf at (length d₁ - at) d₁) m e → Capped (restBytes b i lent largest level topics partitions) d r (putMid at (length d₁ - at) d₁ e)
+  unfolding restBytes
+  rest-put b i lent largest level topics partitions p q = capped-behind p at h q r k
+
+  pub request-put : (b i : Bool) (lent : List ℕ) (replica wait least largest level : ℕ) (topics partitions : List ℕ) → Capped (leadBytes replica wait least) d n d₁ → Capped (restBytes b i lent largest level topics partitions) (midOf at (length d₁ - at) d₁) m e → Capped (requestBytes b i lent replica wait least largest level topics partitions) d r (putMid at (length d₁ - at) d₁ e)
+  unfolding requestBytes
+  request-put b i lent replica wait least largest level topics partitions p q = capped-behind p at h q r k

@@ -1,0 +1,162 @@
+// What is refused of a Fetch request before a byte is written: tables that do not add up, names outside the lent bytes,
+// and then in field order numbers too wide, names too long and names that are not text.
+ghost use mathlib.Core.Path.{_≡_};
+ghost use lib.ListN.{length};
+ghost use Prim.Native.Nat.{_<_, _^_, _≤_};
+ghost use Rattle.layout.specs.Tables.{rowsOf, sum};
+ghost use Rattle.fetch_request.specs.Judged.{bothHold, largestHolds, leadHolds, levelHolds, limitsHold, partitionsHold, requestFault, requestGood, topicFault, topicsFault};
+ghost use Rattle.fetch_request.specs.Written.{cellsOf};
+use crate::Own;
+use primitives::BAD_TABLES;
+use primitives::TOO_WIDE;
+use ranges::Row;
+use ranges::all_ranged;
+use ranges::do_topics_tell;
+use ranges::part;
+use ranges::rows_told;
+use ranges::string_fault;
+use writers::write::fits;
+
+// ---- 13
+
+fn is_good(size: usize, count: u64, topics: &[u64], partitions: &[u64]) -> bool
+    ensures { λ r. ⌜ r ≡ requestGood size count (now (topics .entry)) (now (partitions .entry)) ⌝ }
+{
+    if count != (topics.len() / 3) as u64 {
+        return false;
+    }
+    if !do_topics_tell(topics, (partitions.len() / 3) as u64) {
+        return false;
+    }
+    all_ranged(size, topics, Row::Topic)
+}
+
+// ---- 11: the own row's numbers
+
+fn both_fit(m: u64, n: u64) -> bool
+    ensures { λ r. ⌜ r ≡ bothHold m n ⌝ }
+{
+    if !fits(m, 2147483648) {
+        return false;
+    }
+    fits(n, 2147483648)
+}
+
+fn lead_fits(replica: u64, wait: u64, least: u64) -> bool
+    ensures { λ r. ⌜ r ≡ leadHolds replica wait least ⌝ }
+{
+    if !fits(replica, 2147483648) {
+        return false;
+    }
+    both_fit(wait, least)
+}
+
+// Max bytes, where the version has them.
+fn largest_fits(b: bool, largest: u64) -> bool
+    ensures { λ r. ⌜ r ≡ largestHolds b largest ⌝ }
+{
+    if b {
+        return fits(largest, 2147483648);
+    }
+    true
+}
+
+// An isolation level is 0 or 1.
+fn level_fits(i: bool, level: u64) -> bool
+    ensures { λ r. ⌜ r ≡ levelHolds i level ⌝ }
+{
+    if i {
+        return level <= 1;
+    }
+    true
+}
+
+fn limits_fit(b: bool, i: bool, largest: u64, level: u64) -> bool
+    ensures { λ r. ⌜ r ≡ limitsHold b i largest level ⌝ }
+{
+    if !largest_fits(b, largest) {
+        return false;
+    }
+    level_fits(i, level)
+}
+
+// ---- 11 and 7: topic by topic
+
+fn partitions_fit(partitions: &[u64]) -> bool
+    ensures { λ r. ⌜ r ≡ partitionsHold (now (partitions .entry)) ⌝ }
+{
+    let n = partitions.len() / 3;
+    let mut i: usize = 0;
+    while i < n {
+        if !both_fit(partitions[i * 3], partitions[i * 3 + 2]) {
+            return false;
+        }
+        i = i + 1;
+    }
+    true
+}
+
+// The cells of partitions that the first row of `topics` takes.
+pub(crate) fn cells(topics: &[u64]) -> usize
+    requires { ⌜ (3 ≤ length (now topics)) × (cellsOf (now topics) < 2 ^ 62) ⌝ }
+    ensures { λ r. ⌜ r ≡ cellsOf (now (topics .entry)) ⌝ }
+{
+    rows_told(topics[2]) as usize * 3
+}
+
+// Of the first row of `topics`, with the first rows of `partitions`.
+fn topic_fault(lent: &[u8], topics: &[u64], partitions: &[u64]) -> u8
+    requires { ⌜ (3 ≤ length (now topics)) × (cellsOf (now topics) ≤ length (now partitions)) ⌝ }
+    ensures { λ r. ⌜ r ≡ topicFault (now (lent .entry)) (now (topics .entry)) (now (partitions .entry)) ⌝ }
+{
+    let e = string_fault(part(lent, topics[0], topics[1]));
+    if e != 0 {
+        return e;
+    }
+    let k = cells(topics);
+    if 6442450944 <= k {
+        return TOO_WIDE;
+    }
+    if !partitions_fit(&partitions[..k]) {
+        return TOO_WIDE;
+    }
+    0
+}
+
+// That of the first topic that has one.
+fn topics_fault(lent: &[u8], topics: &[u64], partitions: &[u64]) -> u8
+    requires { ⌜ sum cellsOf (rowsOf 3 (now topics)) ≤ length (now partitions) ⌝ }
+    ensures { λ r. ⌜ r ≡ topicsFault (now (lent .entry)) (now (topics .entry)) (now (partitions .entry)) ⌝ }
+{
+    let mut left = topics;
+    let mut free = partitions;
+    while 3 <= left.len() {
+        let e = topic_fault(lent, left, free);
+        if e != 0 {
+            return e;
+        }
+        let k = cells(left);
+        free = &free[k..];
+        left = &left[3..];
+    }
+    0
+}
+
+// 13, 11, 7, or 0 for none of them. More topics than an array's count can tell are 11 too.
+pub(crate) fn refusal(own: Own, count: u64, lent: &[u8], topics: &[u64], partitions: &[u64]) -> u8
+    ensures { λ r. ⌜ r ≡ requestFault (own .limited) (own .isolated) (now (lent .entry)) (length (now (lent .entry))) count (own .replica) (own .wait) (own .least) (own .largest) (own .level) (now (topics .entry)) (now (partitions .entry)) ⌝ }
+{
+    if !is_good(lent.len(), count, topics, partitions) {
+        return BAD_TABLES;
+    }
+    if !lead_fits(own.replica, own.wait, own.least) {
+        return TOO_WIDE;
+    }
+    if !limits_fit(own.limited, own.isolated, own.largest, own.level) {
+        return TOO_WIDE;
+    }
+    if 2147483648 <= topics.len() / 3 {
+        return TOO_WIDE;
+    }
+    topics_fault(lent, topics, partitions)
+}

@@ -1,0 +1,229 @@
+// The body of a Fetch request, versions 0 to 4. Topics are rows of name (start, length) and number of partitions; partitions rows of index, offset and max bytes.
+// Max bytes stand from version 3 on, an isolation level in version 4.
+ghost use mathlib.Core.Path.{_≡_};
+ghost use mathlib.Core.List.{[], _++_, _∷_};
+ghost use lib.ListN.{getD, length};
+ghost use Prim.Native.Nat.{_/_, _<_, _≤_};
+ghost use Rattle.layout.specs.Answers.{writeAlone, writeAnswer};
+ghost use Rattle.layout.specs.Messages.Fetch as Fetch;
+ghost use Rattle.layout.specs.Primitives.{bytes};
+ghost use Rattle.layout.specs.Tables.{rowsOf, sum};
+ghost use Rattle.rows.specs.Step.{Capped};
+ghost use Rattle.writers.specs.Answers.{replied};
+ghost use Rattle.fetch_request.specs.Answers.{ofRequest};
+ghost use Rattle.fetch_request.specs.Judged.{requestFault};
+ghost use Rattle.fetch_request.specs.Written.{arrayBytes, bytesIf, cellsOf, countedBytes, leadBytes, limitsBytes, partitionBytes, partitionsBytes, requestBytes, restBytes, topicBytes, topicsBytes};
+use crate::Own;
+use crate::RequestBody;
+use crate::judge::cells;
+use crate::judge::refusal;
+use primitives::MOST;
+use primitives::NO_VERSION;
+use primitives::TOO_LONG;
+use primitives::at;
+use primitives::no_room;
+use primitives::version_of;
+use put::Form;
+use ranges::part;
+use versioned::cells::given;
+use writers::Written;
+
+// ---- the walk
+
+// The lowest n bytes of a, and behind them m of b.
+fn two(out: &mut [u8], a: u64, n: usize, b: u64, m: usize) -> usize
+    ensures { λ r. ⌜ Capped (bytes n a ++ bytes m b) (now (out .entry)) r (now (out .exit)) ⌝ }
+{
+    let x = put::lowest(out, a, n);
+    let p = put::behind(x, out.len());
+    let y = put::lowest(&mut out[p..], b, m);
+    put::add(x, y)
+}
+
+fn partition(out: &mut [u8], table: &[u64], i: usize) -> usize
+    requires { ⌜ i < length (now table) / 3 ⌝ }
+    ensures { λ r. ⌜ Capped (partitionBytes (getD (rowsOf 3 (now (table .entry))) i [])) (now (out .entry)) r (now (out .exit)) ⌝ }
+{
+    let a = put::lowest(out, table[i * 3], 4);
+    let p = put::behind(a, out.len());
+    let b = two(&mut out[p..], table[i * 3 + 1], 8, table[i * 3 + 2], 4);
+    put::add(a, b)
+}
+
+// Partition behind partition.
+fn partitions(out: &mut [u8], table: &[u64]) -> usize
+    ensures { λ r. ⌜ Capped (partitionsBytes (now (table .entry))) (now (out .entry)) r (now (out .exit)) ⌝ }
+{
+    let n = table.len() / 3;
+    let mut done: usize = 0;
+    let mut i: usize = 0;
+    while i < n {
+        let p = put::behind(done, out.len());
+        let more = partition(&mut out[p..], table, i);
+        done = put::add(done, more);
+        i = i + 1;
+    }
+    done
+}
+
+// The partitions behind their number.
+fn counted(out: &mut [u8], table: &[u64]) -> usize
+    ensures { λ r. ⌜ Capped (countedBytes (now (table .entry))) (now (out .entry)) r (now (out .exit)) ⌝ }
+{
+    let a = put::length(out, Form::Int32, (table.len() / 3) as u64);
+    let p = put::behind(a, out.len());
+    let b = partitions(&mut out[p..], table);
+    put::add(a, b)
+}
+
+// The first row of `topics`, with the first rows of `partitions`.
+fn topic(out: &mut [u8], lent: &[u8], topics: &[u64], partitions: &[u64]) -> usize
+    requires { ⌜ (3 ≤ length (now topics)) × (cellsOf (now topics) ≤ length (now partitions)) ⌝ }
+    ensures { λ r. ⌜ Capped (topicBytes (now (lent .entry)) (now (topics .entry)) (now (partitions .entry))) (now (out .entry)) r (now (out .exit)) ⌝ }
+{
+    let k = cells(topics);
+    let a = put::sized(out, Form::Int16, part(lent, topics[0], topics[1]));
+    let p = put::behind(a, out.len());
+    let b = counted(&mut out[p..], &partitions[..k]);
+    put::add(a, b)
+}
+
+// Topic behind topic.
+fn all_topics(out: &mut [u8], lent: &[u8], topics: &[u64], partitions: &[u64]) -> usize
+    requires { ⌜ sum cellsOf (rowsOf 3 (now topics)) ≤ length (now partitions) ⌝ }
+    ensures { λ r. ⌜ Capped (topicsBytes (now (lent .entry)) (now (topics .entry)) (now (partitions .entry))) (now (out .entry)) r (now (out .exit)) ⌝ }
+{
+    let mut done: usize = 0;
+    let mut left = topics;
+    let mut free = partitions;
+    while 3 <= left.len() {
+        let p = put::behind(done, out.len());
+        let more = topic(&mut out[p..], lent, left, free);
+        done = put::add(done, more);
+        let k = cells(left);
+        free = &free[k..];
+        left = &left[3..];
+    }
+    done
+}
+
+// The topics behind their number.
+fn array(out: &mut [u8], lent: &[u8], topics: &[u64], partitions: &[u64]) -> usize
+    requires { ⌜ sum cellsOf (rowsOf 3 (now topics)) ≤ length (now partitions) ⌝ }
+    ensures { λ r. ⌜ Capped (arrayBytes (now (lent .entry)) (now (topics .entry)) (now (partitions .entry))) (now (out .entry)) r (now (out .exit)) ⌝ }
+{
+    let a = put::length(out, Form::Int32, (topics.len() / 3) as u64);
+    let p = put::behind(a, out.len());
+    let b = all_topics(&mut out[p..], lent, topics, partitions);
+    put::add(a, b)
+}
+
+// The lowest k bytes of n, where the version has the field.
+fn number_if(out: &mut [u8], has: bool, n: u64, k: usize) -> usize
+    ensures { λ r. ⌜ Capped (bytesIf has k n) (now (out .entry)) r (now (out .exit)) ⌝ }
+{
+    if has {
+        return put::lowest(out, n, k);
+    }
+    0
+}
+
+// Max bytes and isolation level.
+fn limits(out: &mut [u8], b: bool, i: bool, largest: u64, level: u64) -> usize
+    ensures { λ r. ⌜ Capped (limitsBytes b i largest level) (now (out .entry)) r (now (out .exit)) ⌝ }
+{
+    let x = number_if(out, b, largest, 4);
+    let p = put::behind(x, out.len());
+    let y = number_if(&mut out[p..], i, level, 1);
+    put::add(x, y)
+}
+
+fn lead(out: &mut [u8], replica: u64, wait: u64, least: u64) -> usize
+    ensures { λ r. ⌜ Capped (leadBytes replica wait least) (now (out .entry)) r (now (out .exit)) ⌝ }
+{
+    let a = put::lowest(out, replica, 4);
+    let p = put::behind(a, out.len());
+    let b = two(&mut out[p..], wait, 4, least, 4);
+    put::add(a, b)
+}
+
+// What stands behind min bytes.
+fn rest(out: &mut [u8], own: Own, lent: &[u8], topics: &[u64], partitions: &[u64]) -> usize
+    requires { ⌜ sum cellsOf (rowsOf 3 (now topics)) ≤ length (now partitions) ⌝ }
+    ensures { λ r. ⌜ Capped (restBytes (own .limited) (own .isolated) (now (lent .entry)) (own .largest) (own .level) (now (topics .entry)) (now (partitions .entry))) (now (out .entry)) r (now (out .exit)) ⌝ }
+{
+    let x = limits(out, own.limited, own.isolated, own.largest, own.level);
+    let p = put::behind(x, out.len());
+    let y = array(&mut out[p..], lent, topics, partitions);
+    put::add(x, y)
+}
+
+fn body(out: &mut [u8], own: Own, lent: &[u8], topics: &[u64], partitions: &[u64]) -> usize
+    requires { ⌜ sum cellsOf (rowsOf 3 (now topics)) ≤ length (now partitions) ⌝ }
+    ensures { λ r. ⌜ Capped (requestBytes (own .limited) (own .isolated) (now (lent .entry)) (own .replica) (own .wait) (own .least) (own .largest) (own .level) (now (topics .entry)) (now (partitions .entry))) (now (out .entry)) r (now (out .exit)) ⌝ }
+{
+    let x = lead(out, own.replica, own.wait, own.least);
+    let p = put::behind(x, out.len());
+    let y = rest(&mut out[p..], own, lent, topics, partitions);
+    put::add(x, y)
+}
+
+// ---- the call
+
+// At a version that is known: judged, measured and written.
+fn written(
+    out: &mut [u8],
+    own: Own,
+    count: u64,
+    lent: &[u8],
+    topics: &[u64],
+    partitions: &[u64],
+) -> Written
+    ensures { λ r. ⌜ replied r (now (out .exit)) ≡ writeAlone (requestFault (own .limited) (own .isolated) (now (lent .entry)) (length (now (lent .entry))) count (own .replica) (own .wait) (own .least) (own .largest) (own .level) (now (topics .entry)) (now (partitions .entry))) (requestBytes (own .limited) (own .isolated) (now (lent .entry)) (own .replica) (own .wait) (own .least) (own .largest) (own .level) (now (topics .entry)) (now (partitions .entry))) (now (out .entry)) ⌝ }
+{
+    let e = refusal(own, count, lent, topics, partitions);
+    if e != 0 {
+        return Written::Refused(at(e, 0));
+    }
+    let all = body(&mut out[..0], own, lent, topics, partitions);
+    if MOST < all {
+        return Written::Refused(at(TOO_LONG, 0));
+    }
+    if out.len() < all {
+        return Written::Refused(no_room(all));
+    }
+    body(out, own, lent, topics, partitions);
+    Written::Wrote(all)
+}
+
+// `topics` are rows of start and length of a name in `lent` and number of partitions; `partitions` rows of index, offset and max bytes.
+// Unset, max bytes are the most that an Int32 holds, and the isolation level is 0.
+pub fn write(
+    out: &mut [u8],
+    version: i16,
+    lent: &[u8],
+    body: RequestBody,
+    topics: &[u64],
+    partitions: &[u64],
+) -> Written
+    ensures { λ r. ⌜ replied r (now (out .exit)) ≡ writeAnswer Fetch.request version (now (lent .entry)) (ofRequest body ∷ now (topics .entry) ∷ now (partitions .entry) ∷ []) (now (out .entry)) ⌝ }
+{
+    let v = version_of(version);
+    if 4 < v {
+        return Written::Refused(at(NO_VERSION, 0));
+    }
+    let max_bytes = body.max_bytes;
+    let largest = given(max_bytes, 2147483647);
+    let isolation = body.isolation;
+    let level = given(isolation, 0);
+    let own = Own {
+        limited: 3 <= v,
+        isolated: 4 <= v,
+        replica: body.replica,
+        wait: body.max_wait,
+        least: body.min_bytes,
+        largest,
+        level,
+    };
+    written(out, own, body.topics, lent, topics, partitions)
+}

@@ -1,0 +1,68 @@
+-- What is left to read from here is what was asked at the start. Every turn takes one from `left`, so the loop ends, if not by a refusal.
+use mathlib.Core.Bool.{false, true}
+use mathlib.Core.Path.{_≡_, refl}
+use lib.ListN.{length}
+use borrow.Author.Needs.{needs}
+use Rattle.rows.specs.Walk.{inPlace, walk}
+use Rattle.rows.proofs.Loops.{Going, going-done, going-start, turn-next, turn-no}
+use Rattle.fetch_topics.specs.Shapes.{abortedShape}
+use Rattle.walks.specs.Answers.{filledIs}
+use Rattle.fetch_topics.proofs.aborted.pairs_in.Statement.{statement}
+use Rattle.fetch_topics.proofs.aborted.pairs_in.Tie as tie
+
+abbrev Inv-loop : tie.InvT-loop
+Inv-loop s p count table₀ mark left₀ place₀ behind₀ table left place behind = Going (λ e. walk false (abortedShape true) (e .o)) s count p (inPlace table₀ mark) left place (inPlace table behind) × (length table ≡ length table₀)
+
+abbrev μ-loop : tie.MeasureT-loop
+μ-loop s p count table₀ mark left₀ place₀ behind₀ table left place behind = left
+
+loop-holds : tie.Need-loop-holds Inv-loop μ-loop
+loop-holds c = (going-start _ _ _ _ _, refl)
+
+pair-at-requires : tie.Need-pair-at-requires Inv-loop μ-loop
+pair-at-requires c κs = tt
+
+enum-known-next : tie.Need-enum-known-next Inv-loop μ-loop
+enum-known-next c = search needs
+
+sub-left : tie.Need-sub-left Inv-loop μ-loop
+sub-left c = search needs
+
+loop-less : tie.Need-loop-less Inv-loop μ-loop
+loop-less c = search needs
+
+loop-again : tie.Need-loop-again Inv-loop μ-loop
+loop-again c = (turn-next _ _ _ _ _ _ _ _ (c .before .before .before .before .before .before .before .before .loop .inv .0) (c .before .before .before .before .before .before .before .loop-test .taken) (filledIs _) _ _ (c .before .before .before .before .before .pair-at .ensures) (c .before .next .given .1) _ (λ e. refl), search needs)
+
+enum-known-e : tie.Need-enum-known-e Inv-loop μ-loop
+enum-known-e c = search needs
+
+same-length : tie.Need-same-length Inv-loop μ-loop
+same-length c = search needs
+
+returns : tie.Need-returns Inv-loop μ-loop
+returns c = turn-no _ _ _ _ _ _ _ _ (c .before .before .before .before .before .before .before .before .loop .inv .0) (c .before .before .before .before .before .before .before .loop-test .taken) (filledIs _) _ _ (c .before .before .before .before .before .pair-at .ensures) (c .before .e .given .1) (λ e. refl)
+
+same-length-2 : tie.Need-same-length-2 Inv-loop μ-loop
+same-length-2 c = search needs
+
+returns-2 : tie.Need-returns-2 Inv-loop μ-loop
+returns-2 c = going-done _ _ _ _ _ _ _ _ (c .before .loop .inv .0) (c .loop-test .left)
+
+pub pairs-in-spec : {M : Type 1} → statement M
+pairs-in-spec =
+    tie.close
+    (tie.spec
+    Inv-loop
+    μ-loop
+    loop-holds
+    pair-at-requires
+    enum-known-next
+    sub-left
+    loop-less
+    loop-again
+    enum-known-e
+    same-length
+    returns
+    same-length-2
+    returns-2)

@@ -1,0 +1,76 @@
+-- What is left to read from here is what was asked at the start. Every turn takes one from `left`, so the loop ends, if not by a refusal.
+use mathlib.Core.Bool.{false}
+use mathlib.Core.Path.{_≡_, refl}
+use lib.ListN.{length}
+use borrow.Author.Needs.{needs}
+use Rattle.rows.specs.Walk.{walk}
+use Rattle.rows.proofs.Loops.{Going, going-done, going-start, turn-next, turn-no}
+use Rattle.fetch_topics.specs.Shapes.{partitionShape}
+use Rattle.fetch_topics.specs.Walks.{inPartitions, partitionsIs}
+use Rattle.fetch_topics.proofs.partitions.partitions_in.Statement.{statement}
+use Rattle.fetch_topics.proofs.partitions.partitions_in.Tie as tie
+
+abbrev Inv-loop : tie.InvT-loop
+Inv-loop s p stable count partitions₀ aborted₀ left₀ place₀ behind₀ partitions aborted left place behind = Going (λ e. walk false (partitionShape stable) 2) s count p (inPartitions partitions₀ aborted₀ behind₀) left place (inPartitions partitions aborted behind) × ((length partitions ≡ length partitions₀) × (length aborted ≡ length aborted₀))
+
+abbrev μ-loop : tie.MeasureT-loop
+μ-loop s p stable count partitions₀ aborted₀ left₀ place₀ behind₀ partitions aborted left place behind = left
+
+loop-holds : tie.Need-loop-holds Inv-loop μ-loop
+loop-holds c = (going-start _ _ _ _ _, (refl, refl))
+
+partition-at-requires : tie.Need-partition-at-requires Inv-loop μ-loop
+partition-at-requires c κs = tt
+
+enum-known-next : tie.Need-enum-known-next Inv-loop μ-loop
+enum-known-next c = search needs
+
+sub-left : tie.Need-sub-left Inv-loop μ-loop
+sub-left c = search needs
+
+loop-less : tie.Need-loop-less Inv-loop μ-loop
+loop-less c = search needs
+
+loop-again : tie.Need-loop-again Inv-loop μ-loop
+loop-again c = (turn-next _ _ _ _ _ _ _ _ (c .before .before .before .before .before .before .before .before .before .before .before .loop .inv .0) (c .before .before .before .before .before .before .before .before .before .before .loop-test .taken) (partitionsIs _ _) _ _ (c .before .before .before .before .before .before .before .partition-at .ensures) (c .before .next .given .1) _ (λ e. refl), (search needs, search needs))
+
+enum-known-e : tie.Need-enum-known-e Inv-loop μ-loop
+enum-known-e c = search needs
+
+same-length : tie.Need-same-length Inv-loop μ-loop
+same-length c = search needs
+
+same-length-2 : tie.Need-same-length-2 Inv-loop μ-loop
+same-length-2 c = search needs
+
+returns : tie.Need-returns Inv-loop μ-loop
+returns c = turn-no _ _ _ _ _ _ _ _ (c .before .before .before .before .before .before .before .before .before .before .before .loop .inv .0) (c .before .before .before .before .before .before .before .before .before .before .loop-test .taken) (partitionsIs _ _) _ _ (c .before .before .before .before .before .before .before .partition-at .ensures) (c .before .e .given .1) (λ e. refl)
+
+same-length-3 : tie.Need-same-length-3 Inv-loop μ-loop
+same-length-3 c = search needs
+
+same-length-4 : tie.Need-same-length-4 Inv-loop μ-loop
+same-length-4 c = search needs
+
+returns-2 : tie.Need-returns-2 Inv-loop μ-loop
+returns-2 c = going-done _ _ _ _ _ _ _ _ (c .before .loop .inv .0) (c .loop-test .left)
+
+pub partitions-in-spec : {M : Type 1} → statement M
+partitions-in-spec =
+    tie.close
+    (tie.spec
+    Inv-loop
+    μ-loop
+    loop-holds
+    partition-at-requires
+    enum-known-next
+    sub-left
+    loop-less
+    loop-again
+    enum-known-e
+    same-length
+    same-length-2
+    returns
+    same-length-3
+    same-length-4
+    returns-2)

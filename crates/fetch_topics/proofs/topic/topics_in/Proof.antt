@@ -1,0 +1,84 @@
+-- What is left to read from here is what was asked at the start. Every turn takes one from `left`, so the loop ends, if not by a refusal.
+use mathlib.Core.Bool.{false}
+use mathlib.Core.Path.{_≡_, refl}
+use lib.ListN.{length}
+use borrow.Author.Needs.{needs}
+use Rattle.rows.specs.Walk.{walk}
+use Rattle.rows.proofs.Loops.{Going, going-done, going-start, turn-next, turn-no}
+use Rattle.fetch_topics.specs.Shapes.{topicShape}
+use Rattle.fetch_topics.specs.Walks.{inTopics, noMarks, topicsIs}
+use Rattle.fetch_topics.proofs.topic.topics_in.Statement.{statement}
+use Rattle.fetch_topics.proofs.topic.topics_in.Tie as tie
+
+abbrev Inv-loop : tie.InvT-loop
+Inv-loop s p stable count topics₀ partitions₀ aborted₀ left₀ place₀ behind₀ topics partitions aborted left place behind = Going (λ e. walk false (topicShape stable) 1) s count p (inTopics topics₀ partitions₀ aborted₀ noMarks) left place (inTopics topics partitions aborted behind) × ((length topics ≡ length topics₀) × ((length partitions ≡ length partitions₀) × (length aborted ≡ length aborted₀)))
+
+abbrev μ-loop : tie.MeasureT-loop
+μ-loop s p stable count topics₀ partitions₀ aborted₀ left₀ place₀ behind₀ topics partitions aborted left place behind = left
+
+loop-holds : tie.Need-loop-holds Inv-loop μ-loop
+loop-holds c = (going-start _ _ _ _ _, (refl, (refl, refl)))
+
+topic-at-requires : tie.Need-topic-at-requires Inv-loop μ-loop
+topic-at-requires c κs = tt
+
+enum-known-next : tie.Need-enum-known-next Inv-loop μ-loop
+enum-known-next c = search needs
+
+sub-left : tie.Need-sub-left Inv-loop μ-loop
+sub-left c = search needs
+
+loop-less : tie.Need-loop-less Inv-loop μ-loop
+loop-less c = search needs
+
+loop-again : tie.Need-loop-again Inv-loop μ-loop
+loop-again c = (turn-next _ _ _ _ _ _ _ _ (c .before .before .before .before .before .before .before .before .before .before .before .before .before .before .loop .inv .0) (c .before .before .before .before .before .before .before .before .before .before .before .before .before .loop-test .taken) (topicsIs _ _ _) _ _ (c .before .before .before .before .before .before .before .before .before .topic-at .ensures) (c .before .next .given .1) _ (λ e. refl), (search needs, (search needs, search needs)))
+
+enum-known-e : tie.Need-enum-known-e Inv-loop μ-loop
+enum-known-e c = search needs
+
+same-length : tie.Need-same-length Inv-loop μ-loop
+same-length c = search needs
+
+same-length-2 : tie.Need-same-length-2 Inv-loop μ-loop
+same-length-2 c = search needs
+
+same-length-3 : tie.Need-same-length-3 Inv-loop μ-loop
+same-length-3 c = search needs
+
+returns : tie.Need-returns Inv-loop μ-loop
+returns c = turn-no _ _ _ _ _ _ _ _ (c .before .before .before .before .before .before .before .before .before .before .before .before .before .before .loop .inv .0) (c .before .before .before .before .before .before .before .before .before .before .before .before .before .loop-test .taken) (topicsIs _ _ _) _ _ (c .before .before .before .before .before .before .before .before .before .topic-at .ensures) (c .before .e .given .1) (λ e. refl)
+
+same-length-4 : tie.Need-same-length-4 Inv-loop μ-loop
+same-length-4 c = search needs
+
+same-length-5 : tie.Need-same-length-5 Inv-loop μ-loop
+same-length-5 c = search needs
+
+same-length-6 : tie.Need-same-length-6 Inv-loop μ-loop
+same-length-6 c = search needs
+
+returns-2 : tie.Need-returns-2 Inv-loop μ-loop
+returns-2 c = going-done _ _ _ _ _ _ _ _ (c .before .loop .inv .0) (c .loop-test .left)
+
+pub topics-in-spec : {M : Type 1} → statement M
+topics-in-spec =
+    tie.close
+    (tie.spec
+    Inv-loop
+    μ-loop
+    loop-holds
+    topic-at-requires
+    enum-known-next
+    sub-left
+    loop-less
+    loop-again
+    enum-known-e
+    same-length
+    same-length-2
+    same-length-3
+    returns
+    same-length-4
+    same-length-5
+    same-length-6
+    returns-2)

@@ -1,0 +1,86 @@
+// The topics themselves.
+ghost use mathlib.Core.Bool.{false};
+ghost use Rattle.layout.specs.Reading.{loop};
+ghost use Rattle.rows.specs.Walk.{Runs, walk};
+ghost use Rattle.fetch_topics.specs.Shapes.{topicShape};
+ghost use Rattle.fetch_topics.specs.Walks.{inTopics, noMarks, topicsIs};
+use crate::Marked;
+use crate::Marks;
+use crate::partitions::partitions_in;
+use fields::Part;
+use places::items_at;
+use places::string_at;
+use primitives::Number;
+use rows::store3;
+
+// One topic into the tables, where there is room.
+fn topic_at(
+    s: &[u8],
+    p: usize,
+    stable: bool,
+    topics: &mut [u64],
+    partitions: &mut [u64],
+    aborted: &mut [u64],
+    marks: Marks,
+) -> Marked
+    ensures { λ r. ⌜ Runs (λ e. walk false (topicShape stable) 1) (now (s .entry)) p (inTopics (now (topics .entry)) (now (partitions .entry)) (now (aborted .entry)) marks) (topicsIs (now (topics .exit)) (now (partitions .exit)) (now (aborted .exit)) r) ⌝ }
+{
+    match string_at(s, p) {
+        Part::Took {
+            start: name,
+            len,
+            used: q,
+        } => match items_at(s, q, false, false) {
+            Number::Took {
+                value: count,
+                used: u,
+            } => {
+                let stored = Marks {
+                    topics: store3(topics, marks.topics, name as u64, len as u64, count),
+                    partitions: marks.partitions,
+                    aborted: marks.aborted,
+                };
+                partitions_in(s, u, stable, count, partitions, aborted, stored)
+            }
+            Number::Refused(e) => Marked::Refused(e),
+        },
+        Part::Refused(e) => Marked::Refused(e),
+    }
+}
+
+// `count` topics from place p on, from the start of the tables on. The bytes end long before a count that they cannot hold.
+pub fn topics_in(
+    s: &[u8],
+    p: usize,
+    stable: bool,
+    count: u64,
+    topics: &mut [u64],
+    partitions: &mut [u64],
+    aborted: &mut [u64],
+) -> Marked
+    ensures { λ r. ⌜ Runs (λ e. loop count (walk false (topicShape stable) 1)) (now (s .entry)) p (inTopics (now (topics .entry)) (now (partitions .entry)) (now (aborted .entry)) noMarks) (topicsIs (now (topics .exit)) (now (partitions .exit)) (now (aborted .exit)) r) ⌝ }
+{
+    let mut left = count;
+    let mut place = p;
+    let mut behind = Marks {
+        topics: 0,
+        partitions: 0,
+        aborted: 0,
+    };
+    while 0 < left {
+        match topic_at(s, place, stable, topics, partitions, aborted, behind) {
+            Marked::Took { next, marks } => {
+                place = next;
+                behind = marks;
+                left = left - 1;
+            }
+            Marked::Refused(e) => {
+                return Marked::Refused(e);
+            }
+        }
+    }
+    Marked::Took {
+        next: place,
+        marks: behind,
+    }
+}

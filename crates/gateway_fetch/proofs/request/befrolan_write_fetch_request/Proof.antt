@@ -1,0 +1,28 @@
+-- The numbers of what the write promises, at the version that was passed on and for the row that was lent.
+use Rattle.layout.specs.Messages.Fetch as Fetch
+use Rattle.gateway.proofs.Told.{write-told}
+use Rattle.gateway.specs.Replies.{numbers}
+use borrow.Author.Needs.{needs}
+use Rattle.gateway_fetch.proofs.request.befrolan_write_fetch_request.Statement.{
+  statement,
+}
+use Rattle.gateway_fetch.proofs.request.befrolan_write_fetch_request.Tie as tie
+
+body-of-requires : tie.Need-body-of-requires
+body-of-requires c κs = search needs
+
+write-requires : tie.Need-write-requires
+write-requires c κs = search needs
+
+written-requires : tie.Need-written-requires
+written-requires c κs = search needs
+
+same-length : tie.Need-same-length
+same-length c = search needs
+
+returns : tie.Need-returns
+returns c = write-told numbers _ _ (c .written .ensures) Fetch.request _ (c .before .before .before .before .before .before .before .before .before .before .fits .version) _ _ _ _ _ _ (c .before .before .before .before .body-of .ensures) (c .before .before .before .write .ensures)
+
+pub befrolan-write-fetch-request-spec : {M : Type 1} → statement M
+befrolan-write-fetch-request-spec =
+    tie.close (tie.spec body-of-requires write-requires written-requires same-length returns)

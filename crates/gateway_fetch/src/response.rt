@@ -1,0 +1,58 @@
+// Fetch responses: a body's own row is throttle time (kind, number) and number of topics.
+ghost use mathlib.Core.Path.{_≡_};
+ghost use mathlib.Core.List.{[], _∷_};
+ghost use Rattle.layout.specs.Answers.{accepted, prefixRead};
+ghost use Rattle.layout.specs.Messages.Fetch as Fetch;
+ghost use Rattle.fetch.specs.Answers.{ofResponse, ofResponseReply};
+ghost use Rattle.gateway.specs.Replies.{told};
+ghost use Rattle.gateway_fetch.specs.Replies.{fetchNumbers};
+use crate::FetchNumbers;
+use fetch::ResponseBody;
+use fetch::ResponseReply;
+use versioned::cells;
+
+fn accepted(body: ResponseBody, used: usize) -> FetchNumbers
+    ensures { λ r. ⌜ r ≡ fetchNumbers (accepted (ofResponse body) used) ⌝ }
+{
+    let throttle = body.throttle;
+    FetchNumbers {
+        number: 0,
+        place: 0,
+        need: 0,
+        used: used as u64,
+        timed: cells::kind(throttle),
+        throttle: cells::given(throttle, 0),
+        topics: body.topics,
+    }
+}
+
+// What the reader answers, as numbers.
+fn reply(r: ResponseReply) -> FetchNumbers
+    ensures { λ n. ⌜ n ≡ fetchNumbers (ofResponseReply r) ⌝ }
+{
+    match r {
+        ResponseReply::Took { body, used } => accepted(body, used),
+        ResponseReply::Refused(e) => FetchNumbers {
+            number: e.number as u64,
+            place: e.place as u64,
+            need: e.need as u64,
+            used: 0,
+            timed: 0,
+            throttle: 0,
+            topics: 0,
+        },
+    }
+}
+
+#[no_mangle]
+pub extern "C" fn befrolan_read_fetch_response(
+    msg: &[u8],
+    version: i16,
+    topics: &mut [u64],
+    partitions: &mut [u64],
+    aborted: &mut [u64],
+) -> FetchNumbers
+    ensures { λ r. ⌜ (r, now (topics .exit) ∷ now (partitions .exit) ∷ now (aborted .exit) ∷ []) ≡ told fetchNumbers (prefixRead Fetch.response version (now (topics .entry) ∷ now (partitions .entry) ∷ now (aborted .entry) ∷ []) (now (msg .entry))) ⌝ }
+{
+    reply(fetch::read(msg, version, topics, partitions, aborted))
+}

@@ -1,0 +1,2 @@
+-- where the letters of a case stand
+pub mod Cases

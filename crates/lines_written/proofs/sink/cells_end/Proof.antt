@@ -1,0 +1,63 @@
+-- The place where a run ends is behind where it began, and inside.
+use Prim.Native.Nat.{_-_, _≤_, _<_}
+use lib.ListN.{length}
+use borrow.Author.Needs.{needs}
+use Rattle.lines_written.proofs.sink.cells_end.Statement.{statement}
+use Rattle.lines_written.proofs.sink.cells_end.Tie as tie
+
+abbrev Inv-loop : tie.InvT-loop
+Inv-loop s at c i₀ i = (at < i) × (i ≤ length s)
+
+abbrev μ-loop : tie.MeasureT-loop
+μ-loop s at c i₀ i = length s - i
+
+mul-c : tie.Need-mul-c Inv-loop μ-loop
+mul-c c = search needs
+
+shared-slice-read-c : tie.Need-shared-slice-read-c Inv-loop μ-loop
+shared-slice-read-c c = search needs
+
+add-i : tie.Need-add-i Inv-loop μ-loop
+add-i c = search needs
+
+loop-holds : tie.Need-loop-holds Inv-loop μ-loop
+loop-holds c = search needs
+
+mul-if1 : tie.Need-mul-if1 Inv-loop μ-loop
+mul-if1 c = search needs
+
+shared-slice-read-if1 : tie.Need-shared-slice-read-if1 Inv-loop μ-loop
+shared-slice-read-if1 c = search needs
+
+returns : tie.Need-returns Inv-loop μ-loop
+returns c = search needs
+
+add-i-2 : tie.Need-add-i-2 Inv-loop μ-loop
+add-i-2 c = search needs
+
+loop-less : tie.Need-loop-less Inv-loop μ-loop
+loop-less c = search needs
+
+loop-again : tie.Need-loop-again Inv-loop μ-loop
+loop-again c = search needs
+
+returns-2 : tie.Need-returns-2 Inv-loop μ-loop
+returns-2 c = search needs
+
+pub cells-end-spec : {M : Type 1} → statement M
+cells-end-spec =
+    tie.close
+    (tie.spec
+    Inv-loop
+    μ-loop
+    mul-c
+    shared-slice-read-c
+    add-i
+    loop-holds
+    mul-if1
+    shared-slice-read-if1
+    returns
+    add-i-2
+    loop-less
+    loop-again
+    returns-2)

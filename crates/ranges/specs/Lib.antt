@@ -1,0 +1,2 @@
+-- what is asked of lent rows and bytes
+pub mod Asked

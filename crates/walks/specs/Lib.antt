@@ -1,0 +1,2 @@
+-- what the answers of walks say
+pub mod Answers
