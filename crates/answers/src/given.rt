@@ -1,5 +1,6 @@
 // The bytes and cells that a line gives are stored here, and the call is handed them.
 ghost use Prim.Native.Nat.{_≤_};
+use ask_writes::Call;
 use lines_read::at;
 use lines_read::bytes;
 use lines_read::cells;
@@ -41,14 +42,11 @@ fn stored_cells(
     let last = place(letters, b'D');
     let rows = cells(line, first, count(line, first, false) as usize, items);
     let room = cells(line, last, count(line, last, false) as usize, tags);
-    ask_writes::told(
-        call,
-        version(at(given, 2)),
-        given,
-        data,
-        &items[..rows],
-        &tags[..room],
-    )
+    let asked = Call {
+        number: call,
+        version: version(at(given, 2)),
+    };
+    ask_writes::told(asked, given, data, &items[..rows], &tags[..room])
 }
 
 fn few_cells(call: u64, letters: &[u8], line: &[u8], given: &[u64], data: &[u8]) -> Sink
@@ -93,26 +91,24 @@ fn asked(call: u64, letters: &[u8], line: &[u8], given: &[u64], data: &[u8]) -> 
     }
 }
 
-fn stored(
-    call: u64,
-    letters: &[u8],
-    line: &[u8],
-    given: &[u64],
-    k: usize,
-    n: usize,
-    data: &mut [u8],
-) -> Sink
+// The word of a line that has its bytes, and how many they are.
+pub(crate) struct Bytes {
+    pub word: usize,
+    pub size: usize,
+}
+
+fn stored(call: u64, letters: &[u8], line: &[u8], given: &[u64], of: Bytes, data: &mut [u8]) -> Sink
     ensures { λ r. ⌜ r .n ≤ 256 ⌝ }
 {
-    let m = bytes(line, k, n, data);
+    let m = bytes(line, of.word, of.size, data);
     asked(call, letters, line, given, &data[..m])
 }
 
-fn few_bytes(call: u64, letters: &[u8], line: &[u8], given: &[u64], k: usize, n: usize) -> Sink
+fn few_bytes(call: u64, letters: &[u8], line: &[u8], given: &[u64], of: Bytes) -> Sink
     ensures { λ r. ⌜ r .n ≤ 256 ⌝ }
 {
     let mut data = [0u8; 1024];
-    stored(call, letters, line, given, k, n, &mut data)
+    stored(call, letters, line, given, of, &mut data)
 }
 
 // An array of this size is handed on by its type, which says how long it is; a proof does not count so far.
@@ -121,20 +117,19 @@ fn in_array(
     letters: &[u8],
     line: &[u8],
     given: &[u64],
-    k: usize,
-    n: usize,
+    of: Bytes,
     data: &mut [u8; 1048640],
 ) -> Sink
     ensures { λ r. ⌜ r .n ≤ 256 ⌝ }
 {
-    stored(call, letters, line, given, k, n, data)
+    stored(call, letters, line, given, of, data)
 }
 
-fn many_bytes(call: u64, letters: &[u8], line: &[u8], given: &[u64], k: usize, n: usize) -> Sink
+fn many_bytes(call: u64, letters: &[u8], line: &[u8], given: &[u64], of: Bytes) -> Sink
     ensures { λ r. ⌜ r .n ≤ 256 ⌝ }
 {
     let mut data = [0u8; 1048640];
-    in_array(call, letters, line, given, k, n, &mut data)
+    in_array(call, letters, line, given, of, &mut data)
 }
 
 // Bytes have the letter B, or Y where they may be null.
@@ -151,10 +146,14 @@ pub(crate) fn answer(call: u64, letters: &[u8], line: &[u8]) -> Sink
     ensures { λ r. ⌜ r .n ≤ 256 ⌝ }
 {
     let given = lines_read::numbers(line);
-    let k = data_place(letters);
-    let n = count(line, k, true);
+    let word = data_place(letters);
+    let n = count(line, word, true);
+    let of = Bytes {
+        word,
+        size: n as usize,
+    };
     if n <= lent::SHORT {
-        return few_bytes(call, letters, line, &given, k, n as usize);
+        return few_bytes(call, letters, line, &given, of);
     }
-    many_bytes(call, letters, line, &given, k, n as usize)
+    many_bytes(call, letters, line, &given, of)
 }

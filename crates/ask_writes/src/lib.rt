@@ -11,6 +11,12 @@ use writers::Written;
 
 mod bodies;
 
+// A call by its number, and the version that it is put at.
+pub struct Call {
+    pub number: u64,
+    pub version: i16,
+}
+
 // ---- the calls
 
 // Primitives are asked for by the number of their kind, as through the C interface; the calls for kinds begin with number 22.
@@ -27,15 +33,16 @@ fn primitive(call: u64, given: &[u64], value: &[u8], out: &mut [u8]) -> Written 
 }
 
 fn written(
-    call: u64,
-    version: i16,
+    call: Call,
     given: &[u64],
     data: &[u8],
     items: &[u64],
     tags: &[u64],
     out: &mut [u8],
 ) -> Written {
-    match call {
+    let number = call.number;
+    let version = call.version;
+    match number {
         40 => tags_written::tagged_fields(out, data, at(given, 3), tags),
         45 => api_versions_written::response::write(
             out,
@@ -48,7 +55,7 @@ fn written(
         46 => api_versions_request::write(out, version, data, bodies::request(given), tags),
         49 => metadata_request::write(out, version, data, bodies::metadata(given), items),
         52 => fetch_request::write(out, version, data, bodies::fetch(given), items, tags),
-        _ => primitive(call, given, data, out),
+        _ => primitive(number, given, data, out),
     }
 }
 
@@ -62,8 +69,7 @@ fn said(r: Written) -> Sink {
 }
 
 fn lent_output(
-    call: u64,
-    version: i16,
+    call: Call,
     given: &[u64],
     data: &[u8],
     items: &[u64],
@@ -73,29 +79,20 @@ fn lent_output(
     ensures { λ r. ⌜ r .n ≤ 256 ⌝ }
 {
     let room = at(given, 1) as usize;
-    let r = written(
-        call,
-        version,
-        given,
-        data,
-        items,
-        tags,
-        lent::bytes(made, room),
-    );
+    let r = written(call, given, data, items, tags, lent::bytes(made, room));
     replies::kept(replies::output(said(r), made, room))
 }
 
-fn small(call: u64, version: i16, given: &[u64], data: &[u8], items: &[u64], tags: &[u64]) -> Sink
+fn small(call: Call, given: &[u64], data: &[u8], items: &[u64], tags: &[u64]) -> Sink
     ensures { λ r. ⌜ r .n ≤ 256 ⌝ }
 {
     let mut made = [BYTE; 1040];
-    lent_output(call, version, given, data, items, tags, &mut made)
+    lent_output(call, given, data, items, tags, &mut made)
 }
 
 // An array of this size is handed on by its type, which says how long it is; a proof does not count so far.
 fn in_array(
-    call: u64,
-    version: i16,
+    call: Call,
     given: &[u64],
     data: &[u8],
     items: &[u64],
@@ -104,14 +101,14 @@ fn in_array(
 ) -> Sink
     ensures { λ r. ⌜ r .n ≤ 256 ⌝ }
 {
-    lent_output(call, version, given, data, items, tags, made)
+    lent_output(call, given, data, items, tags, made)
 }
 
-fn large(call: u64, version: i16, given: &[u64], data: &[u8], items: &[u64], tags: &[u64]) -> Sink
+fn large(call: Call, given: &[u64], data: &[u8], items: &[u64], tags: &[u64]) -> Sink
     ensures { λ r. ⌜ r .n ≤ 256 ⌝ }
 {
     let mut made = [BYTE; 1048656];
-    in_array(call, version, given, data, items, tags, &mut made)
+    in_array(call, given, data, items, tags, &mut made)
 }
 
 fn agreed(s: Sink, row: [i64; 3]) -> Sink
@@ -132,21 +129,14 @@ fn agree(items: &[u64]) -> Sink
 }
 
 // The reply, and the output as it is afterwards.
-pub fn told(
-    call: u64,
-    version: i16,
-    given: &[u64],
-    data: &[u8],
-    items: &[u64],
-    tags: &[u64],
-) -> Sink
+pub fn told(call: Call, given: &[u64], data: &[u8], items: &[u64], tags: &[u64]) -> Sink
     ensures { λ r. ⌜ r .n ≤ 256 ⌝ }
 {
-    if call == 47 {
+    if call.number == 47 {
         return agree(items);
     }
     if at(given, 1) <= lent::SHORT {
-        return small(call, version, given, data, items, tags);
+        return small(call, given, data, items, tags);
     }
-    large(call, version, given, data, items, tags)
+    large(call, given, data, items, tags)
 }
