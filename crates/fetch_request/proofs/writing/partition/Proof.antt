@@ -62,7 +62,7 @@ same-length : tie.Need-same-length
 same-length c = search needs
 
 returns : tie.Need-returns
-returns c = search (needs, partition-put)
+returns c = partition-put _ (c .before .before .before .before .before .before .before .behind .ensures) _ (c .add .ensures) _ _ (c .before .before .before .before .before .before .before .before .before .before .before .before .before .before .before .pre) (c .before .before .before .before .before .before .before .before .before .before .lowest .ensures) (c .before .before .before .two .ensures)
 
 pub partition-spec : {M : Type 1} → statement M
 partition-spec =
