@@ -1,0 +1,67 @@
+//! Kafka message bodies, read and written by proved code.
+//!
+//! Befrolan reads and writes the ApiVersions, Metadata and Fetch bodies of Kafka. Each of its functions is proved to meet
+//! its contract; this crate is a safe wrapper over its C interface (include/befrolan.h), with no dependencies. What the
+//! numbers of a refusal mean is in docs/RULES.md.
+//!
+//! Nothing is copied on reading: rows go to tables that the caller keeps and lends, which grow where a message needs more,
+//! and texts, data and records are borrowed from the message.
+//!
+//! ```
+//! use befrolan::{read_api_versions_response, ApiVersionsTables, FetchRequest, Read, WantedPartition};
+//! # fn main() -> Result<(), befrolan::Refusal> {
+//! // a broker that offers ApiVersions 0 to 3, Metadata 0 to 1 and Fetch 0 to 4 answers at version 0
+//! let answer = [0, 0, 0, 0, 0, 3, 0, 18, 0, 0, 0, 3, 0, 3, 0, 0, 0, 1, 0, 1, 0, 0, 0, 4];
+//! let mut tables = ApiVersionsTables::default();
+//! let offer = read_api_versions_response(&answer, 0, Read::Whole, &mut tables)?;
+//! assert_eq!(offer.api_versions().map(|v| v.api_key).collect::<Vec<_>>(), [18, 3, 1]);
+//!
+//! let [_, metadata, fetch] = offer.agree();
+//! assert_eq!((metadata.version, fetch.version), (Some(1), Some(4)));
+//!
+//! // where node 1 is to be reached, in a Metadata answer at the version agreed on
+//! let body = [
+//!     0, 0, 0, 1, 0, 0, 0, 1, 0, 1, b'h', 0, 0, 0x23, 0x84, 0xff, 0xff, // one broker: node 1, host "h", port 9092, rack null
+//!     0, 0, 0, 1, // the controller is node 1
+//!     0, 0, 0, 0, // no topics
+//! ];
+//! assert_eq!(befrolan::find_host(&body, 1, 1)?, Some("h"));
+//! assert_eq!(befrolan::find_host(&body, 1, 2)?, None);
+//!
+//! // what stands in partition 0 of the topic "t" from offset 7 on
+//! let mut request = FetchRequest::new(500, 1);
+//! request.topic("t", &[WantedPartition { partition: 0, fetch_offset: 7, partition_max_bytes: 1 << 20 }]);
+//! let mut out = [0; 64];
+//! assert_eq!(request.write(&mut out, 4)?, 44);
+//! # Ok(())
+//! # }
+//! ```
+#![warn(missing_docs)]
+
+mod api_versions;
+mod fetch;
+mod metadata;
+mod raw;
+mod refusal;
+mod rows;
+
+pub use api_versions::{
+    read_api_versions_request, read_api_versions_response, write_api_versions_request, Agreed, ApiVersion, ApiVersions,
+    ApiVersionsAnswer, ApiVersionsRequest, ApiVersionsResponse, ApiVersionsTables, Read, Tag, Tags,
+};
+pub use fetch::{
+    read_fetch_response, Aborted, AbortedTransaction, FetchRequest, FetchResponse, FetchTables, FetchedPartition,
+    FetchedPartitions, FetchedTopic, FetchedTopics, WantedPartition,
+};
+pub use metadata::{
+    find_host, read_metadata_response, write_metadata_request, Broker, Brokers, Field, MetadataResponse, MetadataTables,
+    Nodes, Partition, Partitions, Topic, Topics,
+};
+pub use refusal::Refusal;
+
+fn wrote(r: raw::Numbers) -> Result<usize, Refusal> {
+    if r.number != 0 {
+        return Err(Refusal::of(r.number, r.place, r.need));
+    }
+    Ok(r.used as usize)
+}
