@@ -2,19 +2,22 @@
 use mathlib.Core.Bool.{Bool, false, true}
 use mathlib.Core.List.{List, [], _++_}
 use mathlib.Core.Path.{_∙_, _≡_, ap, sym}
-use Prim.Native.Nat.{_*_, _+_, _-_, _/_, _<_, min, ℕ}
+use Prim.Native.Nat.{_*_, _+_, _-_, _/_, _<_, _≤_, min, ℕ}
 use native.Mathlib.Nat.{add-zero}
+use native.Mathlib.Omega.{arith}
 use lib.Dec.{lit<}
-use lib.ListN.{getD, length, take}
+use lib.ListN.{getD, length, length-append, take}
 use borrow.Rule.Slice.PartMut.{midOf, putMid}
 use Rattle.layout.specs.Primitives.{bytes, lengthBytes}
 use Rattle.layout.specs.Tables.{rowsOf, slice}
+use Rattle.layout.proofs.Back.{length-bytes}
 use Rattle.rows.specs.Step.{Capped, cap}
 use Rattle.rows.proofs.Capped.{capped, capped-as, capped-behind}
 use Rattle.rows.proofs.Chunks.{row-cell}
 use Rattle.rows.proofs.Step.{step-nothing}
 use Rattle.put.specs.declared.Form.{Form}
 use Rattle.put.specs.Put.{Put, behindLength, sizeOf}
+use Rattle.put.proofs.Even.{rows-wide, three-put}
 use Rattle.put.proofs.Stored.{put-step}
 use Rattle.ranges.specs.Asked.{nameOf}
 use Rattle.fetch_request.specs.Written.{arrayBytes, bytesIf, cellsOf, countedBytes, leadBytes, limitsBytes, partitionBytes, partitionsBytes, requestBytes, restBytes, topicBytes, topicsBytes}
@@ -30,18 +33,32 @@ module _ (f : Bool) (k n : ℕ) where
   unfolding bytesIf
   number-lacking h d = rw h (capped (step-nothing d))
 
+-- ---- partitions: sixteen bytes each
+
+pub partition-wide : (r : List ℕ) → length (partitionBytes r) ≡ 16
+unfolding partitionBytes
+partition-wide r =
+    length-append (bytes 4 (getD r 0 0)) (bytes 8 (getD r 1 0) ++ bytes 4 (getD r 2 0))
+    ∙ omega (arith, length-append (bytes 8 (getD r 1 0)) (bytes 4 (getD r 2 0)), length-bytes 4 (getD r 0 0), length-bytes 8 (getD r 1 0), length-bytes 4 (getD r 2 0))
+
+pub partitions-wide : (table : List ℕ) → length (partitionsBytes table) ≡ length table / 3 * 16
+unfolding partitionsBytes
+partitions-wide table = rows-wide partitionBytes 16 partition-wide 3 table
+
+-- a row's cells stand in the table from three times its number on
+pub partition-put : (table : List ℕ) (i : ℕ) → i < length table / 3 → {d d₁ e : List ℕ} {n m : ℕ} → 16 ≤ length d → Put (bytes 4 (getD table (i * 3) 0)) d n d₁ → Put (bytes 8 (getD table (i * 3 + 1) 0)) (midOf 4 (length d₁ - 4) d₁) m e →
+    (d₂ : List ℕ) → d₂ ≡ putMid 4 (length d₁ - 4) d₁ e → {f : List ℕ} {l : ℕ} → Put (bytes 4 (getD table (i * 3 + 2) 0)) (midOf 12 (length d₂ - 12) d₂) l f →
+    Capped (partitionBytes (getD (rowsOf 3 table) i [])) d 16 (putMid 12 (length d₂ - 12) d₂ f)
+unfolding partitionBytes
+partition-put table i l h p q d₂ u s =
+    capped-as (λ t. bytes 4 (sym (row-cell 3 table i l 0 (lit< tt) ∙ ap (λ (j : ℕ). getD table j 0) (add-zero (i * 3))) t) ++ (bytes 8 (sym (row-cell 3 table i l 1 (lit< tt)) t) ++ bytes 4 (sym (row-cell 3 table i l 2 (lit< tt)) t)))
+    (three-put 4 8 4 _ _ _ (omega arith) p q d₂ u s)
+
 -- ---- one behind the other, as calls with `&mut out[at..]` leave it
 
 module _ {d d₁ e : List ℕ} {n m : ℕ} (at : ℕ) (h : at ≡ min n (length d₁)) (r : ℕ) (k : cap r ≡ cap (n + m)) where
   pub two-put : (x y : List ℕ) → Put x d n d₁ → Put y (midOf at (length d₁ - at) d₁) m e → Capped (x ++ y) d r (putMid at (length d₁ - at) d₁ e)
   two-put x y p q = capped-behind (capped (put-step p)) at h (capped (put-step q)) r k
-
-  -- a row's cells stand in the table from three times its number on
-  pub partition-put : (table : List ℕ) (i : ℕ) → i < length table / 3 → Put (bytes 4 (getD table (i * 3) 0)) d n d₁ → Capped (bytes 8 (getD table (i * 3 + 1) 0) ++ bytes 4 (getD table (i * 3 + 2) 0)) (midOf at (length d₁ - at) d₁) m e → Capped (partitionBytes (getD (rowsOf 3 table) i [])) d r (putMid at (length d₁ - at) d₁ e)
-  unfolding partitionBytes
-  partition-put table i l p q =
-      capped-as (λ t. bytes 4 (sym (row-cell 3 table i l 0 (lit< tt) ∙ ap (λ (j : ℕ). getD table j 0) (add-zero (i * 3))) t) ++ (bytes 8 (sym (row-cell 3 table i l 1 (lit< tt)) t) ++ bytes 4 (sym (row-cell 3 table i l 2 (lit< tt)) t)))
-      (capped-behind (capped (put-step p)) at h q r k)
 
   pub counted-put : (table : List ℕ) → Put (lengthBytes (sizeOf Form.Int32) (length table / 3)) d n d₁ → Capped (partitionsBytes table) (midOf at (length d₁ - at) d₁) m e → Capped (countedBytes table) d r (putMid at (length d₁ - at) d₁ e)
   unfolding countedBytes

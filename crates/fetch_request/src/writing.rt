@@ -3,7 +3,7 @@
 ghost use mathlib.Core.Path.{_≡_};
 ghost use mathlib.Core.List.{[], _++_, _∷_};
 ghost use lib.ListN.{getD, length};
-ghost use Prim.Native.Nat.{_/_, _<_, _≤_};
+ghost use Prim.Native.Nat.{_*_, _/_, _<_, _≤_};
 ghost use Rattle.layout.specs.Answers.{writeAlone, writeAnswer};
 ghost use Rattle.layout.specs.Messages.Fetch as Fetch;
 ghost use Rattle.layout.specs.Primitives.{bytes};
@@ -40,30 +40,43 @@ fn two(out: &mut [u8], a: u64, n: usize, b: u64, m: usize) -> usize
     put::add(x, y)
 }
 
+// A row's sixteen bytes.
 fn partition(out: &mut [u8], table: &[u64], i: usize) -> usize
     requires { ⌜ i < length (now table) / 3 ⌝ }
     ensures { λ r. ⌜ Capped (partitionBytes (getD (rowsOf 3 (now (table .entry))) i [])) (now (out .entry)) r (now (out .exit)) ⌝ }
 {
-    let a = put::lowest(out, table[i * 3], 4);
-    let p = put::behind(a, out.len());
-    let b = two(&mut out[p..], table[i * 3 + 1], 8, table[i * 3 + 2], 4);
-    put::add(a, b)
+    if 16 <= out.len() {
+        put::lowest(out, table[i * 3], 4);
+        put::lowest(&mut out[4..], table[i * 3 + 1], 8);
+        put::lowest(&mut out[12..], table[i * 3 + 2], 4);
+    }
+    16
 }
 
-// Partition behind partition.
+// Partition behind partition, in an output of just their size: the loop's own test tells the room of each.
+fn rows(out: &mut [u8], table: &[u64]) -> usize
+    requires { ⌜ length (now out) ≡ length (now table) / 3 * 16 ⌝ }
+    ensures { λ r. ⌜ Capped (partitionsBytes (now (table .entry))) (now (out .entry)) r (now (out .exit)) ⌝ }
+{
+    let mut p: usize = 0;
+    let mut i: usize = 0;
+    while 16 <= out.len() - p {
+        partition(&mut out[p..], table, i);
+        p = p + 16;
+        i = i + 1;
+    }
+    p
+}
+
+// Rows of one width are measured by their number.
 fn partitions(out: &mut [u8], table: &[u64]) -> usize
     ensures { λ r. ⌜ Capped (partitionsBytes (now (table .entry))) (now (out .entry)) r (now (out .exit)) ⌝ }
 {
-    let n = table.len() / 3;
-    let mut done: usize = 0;
-    let mut i: usize = 0;
-    while i < n {
-        let p = put::behind(done, out.len());
-        let more = partition(&mut out[p..], table, i);
-        done = put::add(done, more);
-        i = i + 1;
+    let all = table.len() / 3 * 16;
+    if all <= out.len() {
+        rows(&mut out[..all], table);
     }
-    done
+    all
 }
 
 // The partitions behind their number.

@@ -4,3 +4,5 @@ pub mod Stored
 pub mod Shortest
 -- bytes copied, and what stands behind its length
 pub mod Lengths
+-- rows that all have the same number of bytes
+pub mod Even
