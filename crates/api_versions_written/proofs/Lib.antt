@@ -6,6 +6,8 @@ pub mod Fits
 pub mod Walk
 -- the items, and the loop over them
 pub mod Items
+-- items without tags
+pub mod Untagged
 -- what tables that are not refused hold
 pub mod Good
 -- what the definition comes to

@@ -37,6 +37,25 @@ itemBytes f lent items tags = keyBytes (getD items 0 0) (getD items 1 0) (getD i
 unfoldable pub itemsBytes : Bool → List ℕ → List ℕ → List ℕ → List ℕ
 itemsBytes f lent items tags = each (write (itemShape f)) (times (length items / 4) (valueOf lent (itemShape f) 1) ([] ∷ items ∷ tags ∷ []) .0)
 
+-- ---- the same of an item without tags: all have the same width
+
+-- the number of no tags, where the version has tags
+unfoldable pub noTags : Bool → List ℕ
+noTags true = 0 ∷ []
+noTags false = []
+
+unfoldable pub untaggedBytes : Bool → List ℕ → List ℕ
+untaggedBytes f r = keyBytes (getD r 0 0) (getD r 1 0) (getD r 2 0) ++ noTags f
+
+abbrev pub untaggedWidth : Bool → ℕ
+untaggedWidth true = 7
+untaggedWidth false = 6
+
+unfoldable pub untaggedItems : Bool → List ℕ → List ℕ
+untaggedItems f items = each (untaggedBytes f) (rowsOf 4 items)
+
+-- ---- a whole response
+
 -- how the number of items is carried
 abbrev pub formOf : Bool → Form
 formOf true = Form.Compact

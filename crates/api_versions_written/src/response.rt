@@ -12,7 +12,7 @@ ghost use Rattle.rows.specs.Step.{Capped};
 ghost use Rattle.writers.specs.Answers.{replied};
 ghost use Rattle.ranges.specs.Asked.{told};
 ghost use Rattle.api_versions.specs.Answers.{ofResponse};
-ghost use Rattle.api_versions_written.specs.Responses.{arrayBytes, endBytes, formOf, itemBytes, itemsBytes, keyBytes, responseBytes, responseFault, restBytes, tagCells, tagsPart, throttleBytes};
+ghost use Rattle.api_versions_written.specs.Responses.{arrayBytes, endBytes, formOf, itemBytes, itemsBytes, keyBytes, noTags, responseBytes, responseFault, restBytes, tagCells, tagsPart, throttleBytes, untaggedBytes, untaggedItems, untaggedWidth};
 use crate::judge::refusal;
 use api_versions::ResponseBody;
 use primitives::MOST;
@@ -99,6 +99,75 @@ fn all_items(out: &mut [u8], flexible: bool, lent: &[u8], items: &[u64], tags: &
     done
 }
 
+// ---- items without tags
+
+fn no_tags(out: &mut [u8], flexible: bool) -> usize
+    ensures { λ r. ⌜ Capped (noTags flexible) (now (out .entry)) r (now (out .exit)) ⌝ }
+{
+    if flexible {
+        return put::lowest(out, 0, 1);
+    }
+    0
+}
+
+fn untagged_item(out: &mut [u8], flexible: bool, items: &[u64], i: usize) -> usize
+    requires { ⌜ i < length (now items) / 4 ⌝ }
+    ensures { λ r. ⌜ Capped (untaggedBytes flexible (getD (rowsOf 4 (now (items .entry))) i [])) (now (out .entry)) r (now (out .exit)) ⌝ }
+{
+    let a = key(out, items[i * 4], items[i * 4 + 1], items[i * 4 + 2]);
+    let p = put::behind(a, out.len());
+    let b = no_tags(&mut out[p..], flexible);
+    put::add(a, b)
+}
+
+// Item behind item, in an output of just their size: the loop's own test tells the room of each.
+fn untagged_rows(out: &mut [u8], flexible: bool, width: usize, items: &[u64]) -> usize
+    requires { ⌜ (width ≡ untaggedWidth flexible) × (length (now out) ≡ length (now items) / 4 * width) ⌝ }
+    ensures { λ r. ⌜ Capped (untaggedItems flexible (now (items .entry))) (now (out .entry)) r (now (out .exit)) ⌝ }
+{
+    let mut p: usize = 0;
+    let mut i: usize = 0;
+    while width <= out.len() - p {
+        untagged_item(&mut out[p..], flexible, items, i);
+        p = p + width;
+        i = i + 1;
+    }
+    p
+}
+
+fn untagged_width(flexible: bool) -> usize
+    ensures { λ r. ⌜ r ≡ untaggedWidth flexible ⌝ }
+{
+    if flexible {
+        return 7;
+    }
+    6
+}
+
+// Rows of one width are measured by their number.
+fn untagged_items(out: &mut [u8], flexible: bool, items: &[u64]) -> usize
+    ensures { λ r. ⌜ Capped (untaggedItems flexible (now (items .entry))) (now (out .entry)) r (now (out .exit)) ⌝ }
+{
+    let width = untagged_width(flexible);
+    let all = items.len() / 4 * width;
+    if all <= out.len() {
+        untagged_rows(&mut out[..all], flexible, width, items);
+    }
+    all
+}
+
+// ---- all items
+
+fn items_part(out: &mut [u8], flexible: bool, lent: &[u8], items: &[u64], tags: &[u64]) -> usize
+    requires { ⌜ sum (told 3) (rowsOf 4 (now items)) * 3 ≤ length (now tags) ⌝ }
+    ensures { λ r. ⌜ Capped (itemsBytes flexible (now (lent .entry)) (now (items .entry)) (now (tags .entry))) (now (out .entry)) r (now (out .exit)) ⌝ }
+{
+    if tags.len() < 3 {
+        return untagged_items(out, flexible, items);
+    }
+    all_items(out, flexible, lent, items, tags)
+}
+
 fn form_of(flexible: bool) -> Form
     ensures { λ r. ⌜ r ≡ formOf flexible ⌝ }
 {
@@ -115,7 +184,7 @@ fn array(out: &mut [u8], flexible: bool, lent: &[u8], items: &[u64], tags: &[u64
 {
     let a = put::length(out, form_of(flexible), (items.len() / 4) as u64);
     let p = put::behind(a, out.len());
-    let b = all_items(&mut out[p..], flexible, lent, items, tags);
+    let b = items_part(&mut out[p..], flexible, lent, items, tags);
     put::add(a, b)
 }
 

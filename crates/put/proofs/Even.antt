@@ -43,6 +43,8 @@ module _ {bs d : List ℕ} {n : ℕ} (w : length bs ≡ n) where
   pub front-none : length d < n → Capped bs d n d
   front-none h = record { count = ap cap (sym w); long = refl; stored = λ i j. absurd (omega arith) }
 
+-- ---- row behind row
+
 module _ (b : List ℕ → List ℕ) (k : ℕ) (wide : (r : List ℕ) → length (b r) ≡ k) where
   each-wide : (rs : List (List ℕ)) → length (each b rs) ≡ length rs * k
   unfolding each
@@ -58,45 +60,47 @@ module _ (b : List ℕ → List ℕ) (k : ℕ) (wide : (r : List ℕ) → length
   pub rows-wide : (w : ℕ) (table : List ℕ) → length (each b (rowsOf w table)) ≡ length table / w * k
   rows-wide w table = each-wide (rowsOf w table) ∙ ap (λ (n : ℕ). n * k) (rows-many w table)
 
-  -- before each turn the first i rows stand there, up to p; d has just the room of all
-  module _ (w : ℕ) (table d : List ℕ) where
-    pub record Even (i p : ℕ) (d′ : List ℕ) : Type 0 where
-      pub place : p ≡ i * k
-      pub walked : Walked b w table d i p d′
+-- before each turn the first i rows, of k bytes each, stand there, up to p
+pub record Even (b : List ℕ → List ℕ) (k w : ℕ) (table d : List ℕ) (i p : ℕ) (d′ : List ℕ) : Type 0 where
+  pub place : p ≡ i * k
+  pub walked : Walked b w table d i p d′
 
-    pub even-start : Even 0 0 d
-    even-start = record { place = none; walked = walked-start b w table d }
-      where
-        none : 0 ≡ 0 * k
-        none = omega arith
+module _ {b : List ℕ → List ℕ} {k w : ℕ} {table d : List ℕ} where
+  pub even-start : Even b k w table d 0 0 d
+  even-start = record { place = none; walked = walked-start b w table d }
+    where
+      none : 0 ≡ 0 * k
+      none = omega arith
 
-    module _ (full : length d ≡ length table / w * k) {i p : ℕ} {d₁ : List ℕ} (a : Even i p d₁) where
-      pub even-long : length d₁ ≡ length d
-      even-long = a .walked .step .long
+  -- d has just the room of all
+  module _ (full : length d ≡ length table / w * k) {i p : ℕ} {d₁ : List ℕ} (a : Even b k w table d i p d₁) where
+    long : length d₁ ≡ length d
+    long = a .walked .step .long
 
-      pub even-inside : p ≤ length d₁
-      even-inside = omega (arith, full, a .place, even-long, mul-le-mul-right {m = i} {n = length table / w} k (a .walked .below))
+    next : (i + 1) * k ≡ p + k
+    next = omega (arith, a .place)
 
-      next : (i + 1) * k ≡ p + k
-      next = omega (arith, a .place)
+    pub even-inside : p ≤ length d₁
+    even-inside = omega (arith, full, a .place, long, mul-le-mul-right {m = i} {n = length table / w} k (a .walked .below))
 
-      pub even-left : 0 < k → k ≤ length d₁ - p → i < length table / w
-      even-left z h =
+    pub even-end : length d₁ - p < k → Capped (each b (rowsOf w table)) d p d₁
+    even-end h =
+        walked-end b w table d (a .walked)
+        (elim (decLt i (length table / w)) [
+          | yes l ↦ absurd (omega (arith, full, next, long, mul-le-mul-right {m = i + 1} {n = length table / w} k (omega arith)))
+          | no l ↦ omega arith
+        ])
+
+    module _ (z : 0 < k) (h : k ≤ length d₁ - p) where
+      pub even-left : i < length table / w
+      even-left =
           elim (decLt i (length table / w)) [
             | yes l ↦ l
-            | no l ↦ absurd (omega (arith, full, a .place, even-long, mul-le-mul-right {m = length table / w} {n = i} k (omega arith)))
+            | no l ↦ absurd (omega (arith, full, a .place, long, mul-le-mul-right {m = length table / w} {n = i} k (omega arith)))
           ]
 
-      pub even-more : 0 < k → k ≤ length d₁ - p → {m : ℕ} {e : List ℕ} → Capped (b (getD (rowsOf w table) i [])) (midOf p (length d₁ - p) d₁) m e → Even (i + 1) (p + k) (putMid p (length d₁ - p) d₁ e)
-      even-more z h s = record {
+      pub even-more : length (b (getD (rowsOf w table) i [])) ≡ k → {m : ℕ} {e : List ℕ} → Capped (b (getD (rowsOf w table) i [])) (midOf p (length d₁ - p) d₁) m e → Even b k w table d (i + 1) (p + k) (putMid p (length d₁ - p) d₁ e)
+      even-more v s = record {
         place = sym next;
-        walked = walked-more b w table d (a .walked) (even-left z h) p (omega (arith, even-inside)) s (p + k) (omega (arith, s .count, wide (getD (rowsOf w table) i [])));
+        walked = walked-more b w table d (a .walked) even-left p (omega (arith, even-inside)) s (p + k) (omega (arith, s .count, v));
       }
-
-      pub even-end : length d₁ - p < k → Capped (each b (rowsOf w table)) d p d₁
-      even-end h =
-          walked-end b w table d (a .walked)
-          (elim (decLt i (length table / w)) [
-            | yes l ↦ absurd (omega (arith, full, next, even-long, mul-le-mul-right {m = i + 1} {n = length table / w} k (omega arith)))
-            | no l ↦ omega arith
-          ])

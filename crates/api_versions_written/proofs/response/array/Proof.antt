@@ -13,17 +13,17 @@ length-requires c κs = search needs
 behind-requires : tie.Need-behind-requires
 behind-requires c κs = search needs
 
-sub-all-items : tie.Need-sub-all-items
-sub-all-items c = search needs
+sub-items-part : tie.Need-sub-items-part
+sub-items-part c = search needs
 
-part-all-items-start : tie.Need-part-all-items-start
-part-all-items-start c = search needs
+part-items-part-start : tie.Need-part-items-part-start
+part-items-part-start c = search needs
 
-part-all-items-end : tie.Need-part-all-items-end
-part-all-items-end c = search needs
+part-items-part-end : tie.Need-part-items-part-end
+part-items-part-end c = search needs
 
-all-items-requires : tie.Need-all-items-requires
-all-items-requires c κs = search needs
+items-part-requires : tie.Need-items-part-requires
+items-part-requires c κs = search needs
 
 add-requires : tie.Need-add-requires
 add-requires c κs = search needs
@@ -41,10 +41,10 @@ array-spec =
     form-of-requires
     length-requires
     behind-requires
-    sub-all-items
-    part-all-items-start
-    part-all-items-end
-    all-items-requires
+    sub-items-part
+    part-items-part-start
+    part-items-part-end
+    items-part-requires
     add-requires
     same-length
     returns)
