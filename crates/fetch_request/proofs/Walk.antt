@@ -1,12 +1,13 @@
 -- The walk over a request: what each part leaves in the output, one behind the other.
 use mathlib.Core.Bool.{Bool, false, true}
 use mathlib.Core.List.{List, [], _++_}
-use mathlib.Core.Path.{_∙_, _≡_, ap, sym}
+use mathlib.Core.Path.{_∙_, _≡_, ap, ap₂, sym}
 use Prim.Native.Nat.{_*_, _+_, _-_, _/_, _<_, _≤_, min, ℕ}
 use native.Mathlib.Nat.{add-zero}
 use native.Mathlib.Omega.{arith}
 use lib.Dec.{lit<}
 use lib.ListN.{getD, length, length-append, take}
+use lib.Seq.{length-take-le}
 use borrow.Rule.Slice.PartMut.{midOf, putMid}
 use Rattle.layout.specs.Primitives.{bytes, lengthBytes}
 use Rattle.layout.specs.Tables.{rowsOf, slice}
@@ -45,6 +46,14 @@ pub partitions-wide : (table : List ℕ) → length (partitionsBytes table) ≡ 
 unfolding partitionsBytes
 partitions-wide table = rows-wide partitionBytes 16 partition-wide 3 table
 
+pub counted-wide : (table : List ℕ) → length (countedBytes table) ≡ 4 + length table / 3 * 16
+unfolding countedBytes lengthBytes
+counted-wide table = length-append (bytes 4 (length table / 3)) (partitionsBytes table) ∙ omega (arith, length-bytes 4 (length table / 3), partitions-wide table)
+
+name-wide : (x : List ℕ) → length (behindLength (sizeOf Form.Int16) x) ≡ length x + 2
+unfolding behindLength lengthBytes
+name-wide x = length-append (bytes 2 (length x)) x ∙ omega (arith, length-bytes 2 (length x))
+
 -- a row's cells stand in the table from three times its number on
 pub partition-put : (table : List ℕ) (i : ℕ) → i < length table / 3 → {d d₁ e : List ℕ} {n m : ℕ} → 16 ≤ length d → Put (bytes 4 (getD table (i * 3) 0)) d n d₁ → Put (bytes 8 (getD table (i * 3 + 1) 0)) (midOf 4 (length d₁ - 4) d₁) m e →
     (d₂ : List ℕ) → d₂ ≡ putMid 4 (length d₁ - 4) d₁ e → {f : List ℕ} {l : ℕ} → Put (bytes 4 (getD table (i * 3 + 2) 0)) (midOf 12 (length d₂ - 12) d₂) l f →
@@ -53,6 +62,25 @@ unfolding partitionBytes
 partition-put table i l h p q d₂ u s =
     capped-as (λ t. bytes 4 (sym (row-cell 3 table i l 0 (lit< tt) ∙ ap (λ (j : ℕ). getD table j 0) (add-zero (i * 3))) t) ++ (bytes 8 (sym (row-cell 3 table i l 1 (lit< tt)) t) ++ bytes 4 (sym (row-cell 3 table i l 2 (lit< tt)) t)))
     (three-put 4 8 4 _ _ _ (omega arith) p q d₂ u s)
+
+-- ---- a topic: x is its name, and j the cells of its partitions
+
+module _ (lent topics partitions x : List ℕ) (j : ℕ) (i : j ≡ cellsOf topics) (s : x ≡ slice lent (getD topics 0 0, getD topics 1 0)) (l : j ≤ length partitions) where
+  topic-as : behindLength (sizeOf Form.Int16) x ++ countedBytes (take j partitions) ≡ topicBytes lent topics partitions
+  unfolding topicBytes nameOf
+  topic-as = ap₂ (λ (y : List ℕ) (n : ℕ). behindLength (sizeOf Form.Int16) y ++ countedBytes (take n partitions)) s i
+
+  counted-taken : length (countedBytes (take j partitions)) ≡ 4 + j / 3 * 16
+  counted-taken = counted-wide (take j partitions) ∙ ap (λ (n : ℕ). 4 + n / 3 * 16) (length-take-le j partitions l)
+
+  pub topic-wide : length (topicBytes lent topics partitions) ≡ length x + 2 + 4 + j / 3 * 16
+  topic-wide = ap length (sym topic-as) ∙ length-append (behindLength (sizeOf Form.Int16) x) (countedBytes (take j partitions)) ∙ omega (arith, name-wide x, counted-taken)
+
+  pub topic-put : {d d₁ e : List ℕ} {n m : ℕ} → length x + 2 + 4 + j / 3 * 16 ≤ length d → Put (behindLength (sizeOf Form.Int16) x) d n d₁ → Capped (countedBytes (take j partitions)) (midOf (length x + 2) (length d₁ - (length x + 2)) d₁) m e →
+      Capped (topicBytes lent topics partitions) d (length x + 2 + 4 + j / 3 * 16) (putMid (length x + 2) (length d₁ - (length x + 2)) d₁ e)
+  topic-put h p q =
+      capped-as topic-as
+      (capped-behind (capped (put-step p)) (length x + 2) (omega (arith, p .count, put-step p .long, name-wide x)) q _ (omega (arith, p .count, name-wide x, q .count, counted-taken)))
 
 -- ---- one behind the other, as calls with `&mut out[at..]` leave it
 
@@ -63,11 +91,6 @@ module _ {d d₁ e : List ℕ} {n m : ℕ} (at : ℕ) (h : at ≡ min n (length 
   pub counted-put : (table : List ℕ) → Put (lengthBytes (sizeOf Form.Int32) (length table / 3)) d n d₁ → Capped (partitionsBytes table) (midOf at (length d₁ - at) d₁) m e → Capped (countedBytes table) d r (putMid at (length d₁ - at) d₁ e)
   unfolding countedBytes
   counted-put table p q = capped-behind (capped (put-step p)) at h q r k
-
-  pub topic-put : (lent topics partitions x : List ℕ) (j : ℕ) → j ≡ cellsOf topics → x ≡ slice lent (getD topics 0 0, getD topics 1 0) → Put (behindLength (sizeOf Form.Int16) x) d n d₁ → Capped (countedBytes (take j partitions)) (midOf at (length d₁ - at) d₁) m e → Capped (topicBytes lent topics partitions) d r (putMid at (length d₁ - at) d₁ e)
-  unfolding topicBytes nameOf
-  topic-put lent topics partitions x j i s p q =
-      capped-behind (capped-as (ap (behindLength (sizeOf Form.Int16)) s) (capped (put-step p))) at h (capped-as (ap (λ (y : ℕ). countedBytes (take y partitions)) i) q) r k
 
   pub array-put : (lent topics partitions : List ℕ) → Put (lengthBytes (sizeOf Form.Int32) (length topics / 3)) d n d₁ → Capped (topicsBytes lent topics partitions) (midOf at (length d₁ - at) d₁) m e → Capped (arrayBytes lent topics partitions) d r (putMid at (length d₁ - at) d₁ e)
   unfolding arrayBytes

@@ -89,16 +89,20 @@ fn counted(out: &mut [u8], table: &[u64]) -> usize
     put::add(a, b)
 }
 
-// The first row of `topics`, with the first rows of `partitions`.
+// The first row of `topics`, with the first rows of `partitions`: measured first, and stored where there is room for all of it.
 fn topic(out: &mut [u8], lent: &[u8], topics: &[u64], partitions: &[u64]) -> usize
     requires { ⌜ (3 ≤ length (now topics)) × (cellsOf (now topics) ≤ length (now partitions)) ⌝ }
     ensures { λ r. ⌜ Capped (topicBytes (now (lent .entry)) (now (topics .entry)) (now (partitions .entry))) (now (out .entry)) r (now (out .exit)) ⌝ }
 {
     let k = cells(topics);
-    let a = put::sized(out, Form::Int16, part(lent, topics[0], topics[1]));
-    let p = put::behind(a, out.len());
-    let b = counted(&mut out[p..], &partitions[..k]);
-    put::add(a, b)
+    let name = part(lent, topics[0], topics[1]);
+    let head = name.len() + 2;
+    let all = head + 4 + k / 3 * 16;
+    if all <= out.len() {
+        put::sized(out, Form::Int16, name);
+        counted(&mut out[head..], &partitions[..k]);
+    }
+    all
 }
 
 // Topic behind topic.
