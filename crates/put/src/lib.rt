@@ -1,8 +1,9 @@
 // Writers of what is left of the output: each is lent the rest behind what was written before it, and its promise speaks of that part.
 // It stores its bytes at the front where all of them fit, and nothing where they do not, and always tells how many they are.
 ghost use mathlib.Core.Path.{_≡_};
-ghost use lib.ListN.{length};
-ghost use Prim.Native.Nat.{_+_, min};
+ghost use mathlib.Core.List.{_++_};
+ghost use lib.ListN.{drop, length, take};
+ghost use Prim.Native.Nat.{_+_, _≤_, min};
 ghost use Rattle.layout.specs.Primitives.{bytes, flagBytes, lengthBytes, nullBytes, unsignedBytes};
 ghost use Rattle.rows.specs.Step.{cap};
 ghost use Rattle.put.specs.Put.{Put, behindLength, sizeOf};
@@ -96,8 +97,9 @@ pub fn unsigned_varint(out: &mut [u8], n: u64) -> usize
     count
 }
 
-// The bytes themselves.
-pub fn raw(out: &mut [u8], content: &[u8]) -> usize
+// ---- the bytes themselves
+
+fn byte_by_byte(out: &mut [u8], content: &[u8]) -> usize
     ensures { λ r. ⌜ Put (now (content .entry)) (now (out .entry)) r (now (out .exit)) ⌝ }
 {
     if content.len() <= out.len() {
@@ -108,6 +110,46 @@ pub fn raw(out: &mut [u8], content: &[u8]) -> usize
         }
     }
     content.len()
+}
+
+// The first four. All are read before the first is stored, so that one load and one store do.
+fn four(out: &mut [u8], content: &[u8])
+    requires { ⌜ (4 ≤ length (now out)) × (4 ≤ length (now content)) ⌝ }
+    ensures { λ r. ⌜ now (out .exit) ≡ take 4 (now (content .entry)) ++ drop 4 (now (out .entry)) ⌝ }
+{
+    let a = content[0];
+    let b = content[1];
+    let c = content[2];
+    let d = content[3];
+    out[0] = a;
+    out[1] = b;
+    out[2] = c;
+    out[3] = d;
+}
+
+// Four to eight bytes: the first four and the last four, which may overlap.
+fn short(out: &mut [u8], content: &[u8]) -> usize
+    requires { ⌜ (4 ≤ length (now content)) × (length (now content) ≤ 8) ⌝ }
+    ensures { λ r. ⌜ Put (now (content .entry)) (now (out .entry)) r (now (out .exit)) ⌝ }
+{
+    let n = content.len();
+    if n <= out.len() {
+        four(out, content);
+        four(&mut out[n - 4..], &content[n - 4..]);
+    }
+    n
+}
+
+// A name is mostly short.
+pub fn raw(out: &mut [u8], content: &[u8]) -> usize
+    ensures { λ r. ⌜ Put (now (content .entry)) (now (out .entry)) r (now (out .exit)) ⌝ }
+{
+    if 4 <= content.len() {
+        if content.len() <= 8 {
+            return short(out, content);
+        }
+    }
+    byte_by_byte(out, content)
 }
 
 // One more than n, as a compact length has it. No slice and no table reaches the last branch: one more than n is 65 bits.

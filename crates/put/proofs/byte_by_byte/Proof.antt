@@ -4,8 +4,8 @@ use lib.ListN.{length}
 use borrow.Author.Needs.{needs}
 use Rattle.put.proofs.Lengths.{Copied, copied-again, copied-end, copied-start}
 use Rattle.put.proofs.Stored.{put-none}
-use Rattle.put.proofs.raw.Statement.{statement}
-use Rattle.put.proofs.raw.Tie as tie
+use Rattle.put.proofs.byte_by_byte.Statement.{statement}
+use Rattle.put.proofs.byte_by_byte.Tie as tie
 
 abbrev Inv-loop : tie.InvT-loop
 Inv-loop out₀ content p₀ out p = Copied out₀ content out p
@@ -40,8 +40,8 @@ returns c = search (needs, copied-end)
 returns-2 : tie.Need-returns-2 Inv-loop μ-loop
 returns-2 c = put-none _ _ _ refl (c .if1 .left)
 
-pub raw-spec : {M : Type 1} → statement M
-raw-spec =
+pub byte-by-byte-spec : {M : Type 1} → statement M
+byte-by-byte-spec =
     tie.close
     (tie.spec
     Inv-loop
