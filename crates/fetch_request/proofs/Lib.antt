@@ -2,6 +2,8 @@
 pub mod Value
 -- a request part by part
 pub mod Walk
+-- the most bytes of a request
+pub mod Most
 -- the loop over the topics
 pub mod Topics
 -- 13: counts that add up, and what tables that are not refused hold

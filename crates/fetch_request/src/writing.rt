@@ -3,12 +3,12 @@
 ghost use mathlib.Core.Path.{_≡_};
 ghost use mathlib.Core.List.{[], _++_, _∷_};
 ghost use lib.ListN.{getD, length};
-ghost use Prim.Native.Nat.{_*_, _/_, _<_, _≤_};
+ghost use Prim.Native.Nat.{_*_, _+_, _/_, _<_, _≤_};
 ghost use Rattle.layout.specs.Answers.{writeAlone, writeAnswer};
 ghost use Rattle.layout.specs.Messages.Fetch as Fetch;
 ghost use Rattle.layout.specs.Primitives.{bytes};
 ghost use Rattle.layout.specs.Tables.{rowsOf, sum};
-ghost use Rattle.rows.specs.Step.{Capped};
+ghost use Rattle.rows.specs.Step.{Capped, cap};
 ghost use Rattle.writers.specs.Answers.{replied};
 ghost use Rattle.fetch_request.specs.Answers.{ofRequest};
 ghost use Rattle.fetch_request.specs.Judged.{requestFault};
@@ -187,7 +187,53 @@ fn body(out: &mut [u8], own: Own, lent: &[u8], topics: &[u64], partitions: &[u64
 
 // ---- the call
 
-// At a version that is known: judged, measured and written.
+// Measured, and written where there is room.
+fn measured(out: &mut [u8], own: Own, lent: &[u8], topics: &[u64], partitions: &[u64]) -> Written
+    requires { ⌜ sum cellsOf (rowsOf 3 (now topics)) ≤ length (now partitions) ⌝ }
+    ensures { λ r. ⌜ replied r (now (out .exit)) ≡ writeAlone 0 (requestBytes (own .limited) (own .isolated) (now (lent .entry)) (own .replica) (own .wait) (own .least) (own .largest) (own .level) (now (topics .entry)) (now (partitions .entry))) (now (out .entry)) ⌝ }
+{
+    let all = body(&mut out[..0], own, lent, topics, partitions);
+    if MOST < all {
+        return Written::Refused(at(TOO_LONG, 0));
+    }
+    if out.len() < all {
+        return Written::Refused(no_room(all));
+    }
+    body(out, own, lent, topics, partitions);
+    Written::Wrote(all)
+}
+
+// No request has more bytes, of so many lent bytes and so many cells of topics and of partitions. Counts over the limit are not told apart.
+fn most_bytes(lent: usize, topics: usize, partitions: usize) -> usize
+    ensures { λ r. ⌜ cap (topics * (lent + 6) + partitions * 16 + 21) ≤ r ⌝ }
+{
+    if MOST < lent {
+        return MOST + 1;
+    }
+    if MOST < topics {
+        return MOST + 1;
+    }
+    if MOST < partitions {
+        return MOST + 1;
+    }
+    topics * (lent + 6) + partitions * 16 + 21
+}
+
+// Where the room is plainly enough nothing is measured.
+fn stored(out: &mut [u8], own: Own, lent: &[u8], topics: &[u64], partitions: &[u64]) -> Written
+    requires { ⌜ sum cellsOf (rowsOf 3 (now topics)) ≤ length (now partitions) ⌝ }
+    ensures { λ r. ⌜ replied r (now (out .exit)) ≡ writeAlone 0 (requestBytes (own .limited) (own .isolated) (now (lent .entry)) (own .replica) (own .wait) (own .least) (own .largest) (own .level) (now (topics .entry)) (now (partitions .entry))) (now (out .entry)) ⌝ }
+{
+    let enough = most_bytes(lent.len(), topics.len(), partitions.len());
+    if enough <= MOST {
+        if enough <= out.len() {
+            return Written::Wrote(body(out, own, lent, topics, partitions));
+        }
+    }
+    measured(out, own, lent, topics, partitions)
+}
+
+// At a version that is known: judged and written.
 fn written(
     out: &mut [u8],
     own: Own,
@@ -202,15 +248,7 @@ fn written(
     if e != 0 {
         return Written::Refused(at(e, 0));
     }
-    let all = body(&mut out[..0], own, lent, topics, partitions);
-    if MOST < all {
-        return Written::Refused(at(TOO_LONG, 0));
-    }
-    if out.len() < all {
-        return Written::Refused(no_room(all));
-    }
-    body(out, own, lent, topics, partitions);
-    Written::Wrote(all)
+    stored(out, own, lent, topics, partitions)
 }
 
 // `topics` are rows of start and length of a name in `lent` and number of partitions; `partitions` rows of index, offset and max bytes.

@@ -34,3 +34,10 @@ module _ {bs e : List ℕ} {n : ℕ} (s : Capped bs [] n e) (out : List ℕ) whe
     measured-written {m} {d} k w =
         (λ t. (accepted [] (is t), (w .stored (omega (arith, is)) (omega (arith, is)) ∙ ap (λ (x : List ℕ). bs ++ drop (length bs) x) same) t))
         ∙ sym (rw (le-true (length bs) most (omega (arith, is)), le-true (length bs) (length out) (omega (arith, is, ap length same))))
+
+-- where the room is enough for certain the walk is run once
+pub written-once : {bs out d : List ℕ} {n : ℕ} → Capped bs out n d → length bs ≤ most → length bs ≤ length out → _≡_ {A = Answer × List ℕ} (accepted [] n, d) (writeAlone 0 bs out)
+unfolding writeAlone
+written-once {bs} {out} {d} {n} s h k =
+    let is : n ≡ length bs = omega (arith, s .count) in
+    (λ t. (accepted [] (is t), s .stored h k t)) ∙ sym (rw (le-true (length bs) most h, le-true (length bs) (length out) k))
