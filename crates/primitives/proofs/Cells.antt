@@ -2,9 +2,9 @@
 use mathlib.Core.Bool.{Bool, cond, false, true}
 use mathlib.Core.List.{List, [], _++_, _∷_}
 use mathlib.Core.Path.{_∙_, _≡_, ap, refl, subst, sym}
-use Prim.Native.Nat.{_*_, _+_, _-_, _<_, _^_, _≤_, suc, ℕ}
+use Prim.Native.Nat.{_*_, _+_, _-_, _/_, _<_, _^_, _≤_, suc, ℕ}
 use native.Mathlib.Decide.{decLe}
-use native.Mathlib.Nat.{add-mul, add-zero, mul-assoc, mul-comm, pow-suc}
+use native.Mathlib.Nat.{add-mul, add-zero, div-eq-of-lt, div-eq-of-lt-le, mul-assoc, mul-comm, one-mul, pow-suc, zero-mul}
 use native.Mathlib.Omega.{arith}
 use lib.Dec.{ltb}
 use lib.ListN.{drop, getD, length, length-drop, take}
@@ -15,7 +15,7 @@ use Rattle.layout.specs.Reading.{Refusal, Res, bad, because, give, ok}
 use Rattle.layout.specs.Primitives.{Width, be, bits, cell, flag, int, size, w64}
 use Rattle.layout.proofs.Canon.{Bytes, canon-int}
 use Rattle.layout.proofs.Cells.{above, extend, extend-high, extend-low, powers}
-use Rattle.layout.proofs.Tests.{lt-false, lt-true, of-ge, of-lt}
+use Rattle.layout.proofs.Tests.{of-ge, of-lt}
 use Rattle.layout.proofs.Steps.{int-bad, int-ok, then-bad, then-ok}
 use Rattle.primitives.specs.Answers.{Below, ofExtended, ofNumber}
 use Rattle.primitives.specs.declared.Number.{Number}
@@ -84,16 +84,35 @@ extends w n h = go (ltb n (2 ^ (bits w - 1))) refl
     go true e = sym (extend-low w n (of-lt _ _ e))
     go false e = sym (extend-high w n (of-ge _ _ e) h)
 
--- one case each
-module _ (n : Number) (half fill v u : ℕ) (i : n ≡ Number.Took v u) where
-  pub extended-low : v < half → ok v u ≡ ofExtended half fill n
-  extended-low h = sym (ap (ofExtended half fill) i ∙ rw (lt-true v half h))
+-- below 2 * half the quotient by half is 0 or 1
+module _ (v half fill : ℕ) (h : v < 2 * half) where
+  quotient-low : v < half → v / half * fill ≡ 0
+  quotient-low l = ap (λ (q : ℕ). q * fill) (div-eq-of-lt l) ∙ zero-mul fill
 
-  pub extended-high : half ≤ v → ok (v + fill) u ≡ ofExtended half fill n
-  extended-high h = sym (ap (ofExtended half fill) i ∙ rw (lt-false v half h))
+  quotient-high : half ≤ v → v / half * fill ≡ fill
+  quotient-high l = ap (λ (q : ℕ). q * fill) (div-eq-of-lt-le {k = 1} half (omega arith) (omega arith)) ∙ one-mul fill
 
-  pub extended-fits : Below (2 ^ 64 - fill) n → Fits Mir.w64 (v + fill)
-  extended-fits b = let h : v < 2 ^ 64 - fill = subst (Below (2 ^ 64 - fill)) i b in record { fits = omega arith }
+  pub filled-is : v + v / half * fill ≡ cond (ltb v half) v (v + fill)
+  filled-is = go (ltb v half) refl
+    where
+      go : (b : Bool) → ltb v half ≡ b → v + v / half * fill ≡ cond b v (v + fill)
+      go true e = let q = quotient-low (of-lt _ _ e) in omega arith
+      go false e = ap (λ (q : ℕ). v + q) (quotient-high (of-ge _ _ e))
+
+  pub filled-fits : 2 * half + fill ≤ 2 ^ 64 → (v / half * fill < 2 ^ 64) × (v + v / half * fill < 2 ^ 64)
+  filled-fits g = go (ltb v half) refl
+    where
+      go : (b : Bool) → ltb v half ≡ b → (v / half * fill < 2 ^ 64) × (v + v / half * fill < 2 ^ 64)
+      go true e = let q = quotient-low (of-lt _ _ e) in (omega arith, omega arith)
+      go false e = let q = quotient-high (of-ge _ _ e) in (omega arith, omega arith)
+
+-- the cell of the number, and that it is below m
+module _ (n : Number) (v u : ℕ) (i : n ≡ Number.Took v u) where
+  pub extended-is : (half fill c : ℕ) → c ≡ cond (ltb v half) v (v + fill) → ok c u ≡ ofExtended half fill n
+  extended-is half fill c e = ap (λ (x : ℕ). ok x u) e ∙ sym (ap (ofExtended half fill) i)
+
+  pub extended-below : (m : ℕ) → Below m n → v < m
+  extended-below m b = subst (Below m) i b
 
 module _ (w : Width) (s : List ℕ) where
   -- too few bytes

@@ -1,6 +1,8 @@
 // Numbers at the front of what is left of a message: each reader takes the rest behind the primitive before it, and its promise speaks of that part.
+ghost use mathlib.Core.Bool.{cond};
 ghost use mathlib.Core.Path.{_≡_};
-ghost use Prim.Native.Nat.{_-_, _<_, _^_, _≤_};
+ghost use Prim.Native.Nat.{_*_, _+_, _<_, _^_, _≤_};
+ghost use lib.Dec.{ltb};
 ghost use lib.ListN.{length, take};
 ghost use Rattle.layout.specs.Primitives.{be, cell, flag, int, unsigned, w8, w16, w32, w64};
 ghost use Rattle.primitives.specs.Answers.{Below, ofExtended, ofFlag, ofNumber};
@@ -62,21 +64,24 @@ pub fn uint32(s: &[u8]) -> Number
     }
 }
 
+// From half on `fill` is added: a quotient of 0 or 1 costs less than a branch.
+fn filled(value: u64, half: u64, fill: u64) -> u64
+    requires { ⌜ (value < 2 * half) × (2 * half + fill ≤ 2 ^ 64) ⌝ }
+    ensures { λ r. ⌜ r ≡ cond (ltb value half) value (value + fill) ⌝ }
+{
+    value + value / half * fill
+}
+
 // The cell of a number that is not negative: from half on it stands for a negative number, and the bits above its width are filled.
 fn extended(n: Number, half: u64, fill: u64) -> Number
-    requires { ⌜ Below (2 ^ 64 - fill) n ⌝ }
+    requires { ⌜ Below (2 * half) n × (2 * half + fill ≤ 2 ^ 64) ⌝ }
     ensures { λ r. ⌜ ofNumber r ≡ ofExtended half fill n ⌝ }
 {
     match n {
-        Number::Took { value, used } => {
-            if value < half {
-                return Number::Took { value, used };
-            }
-            Number::Took {
-                value: value + fill,
-                used,
-            }
-        }
+        Number::Took { value, used } => Number::Took {
+            value: filled(value, half, fill),
+            used,
+        },
         Number::Refused(e) => Number::Refused(e),
     }
 }

@@ -10,7 +10,7 @@ uint16-requires : tie.Need-uint16-requires
 uint16-requires c κs = search needs
 
 extended-requires : tie.Need-extended-requires
-extended-requires c κs = int-below w16 _ (c .before .shared-slice-known .given) (c .uint16 .result) (c .uint16 .ensures) _ (omega arith)
+extended-requires c κs = (int-below w16 _ (c .before .shared-slice-known .given) (c .uint16 .result) (c .uint16 .ensures) _ (omega arith), omega arith)
 
 returns : tie.Need-returns
 returns c = cell-extended w16 _ (c .before .before .shared-slice-known .given) (c .before .uint16 .result) (c .before .uint16 .ensures) _ (c .extended .ensures)

@@ -10,7 +10,7 @@ uint32-requires : tie.Need-uint32-requires
 uint32-requires c κs = search needs
 
 extended-requires : tie.Need-extended-requires
-extended-requires c κs = int-below w32 _ (c .before .shared-slice-known .given) (c .uint32 .result) (c .uint32 .ensures) _ (omega arith)
+extended-requires c κs = (int-below w32 _ (c .before .shared-slice-known .given) (c .uint32 .result) (c .uint32 .ensures) _ (omega arith), omega arith)
 
 returns : tie.Need-returns
 returns c = cell-extended w32 _ (c .before .before .shared-slice-known .given) (c .before .uint32 .result) (c .before .uint32 .ensures) _ (c .extended .ensures)

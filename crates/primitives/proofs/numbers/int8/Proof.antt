@@ -10,7 +10,7 @@ uint8-requires : tie.Need-uint8-requires
 uint8-requires c κs = search needs
 
 extended-requires : tie.Need-extended-requires
-extended-requires c κs = int-below w8 _ (c .before .shared-slice-known .given) (c .uint8 .result) (c .uint8 .ensures) _ (omega arith)
+extended-requires c κs = (int-below w8 _ (c .before .shared-slice-known .given) (c .uint8 .result) (c .uint8 .ensures) _ (omega arith), omega arith)
 
 returns : tie.Need-returns
 returns c = cell-extended w8 _ (c .before .before .shared-slice-known .given) (c .before .uint8 .result) (c .before .uint8 .ensures) _ (c .extended .ensures)
