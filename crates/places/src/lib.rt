@@ -15,11 +15,13 @@ use fields::Part;
 use fields::counts;
 use fields::parts;
 use fields::texts;
+use primitives::BYTES_END;
 use primitives::Flag;
 use primitives::NULL_ITEMS;
 use primitives::Number;
 use primitives::at;
 use primitives::numbers;
+use rows::less;
 
 fn moved(n: Number, p: usize) -> Number
     requires { ⌜ Fits p (ofNumber n) ⌝ }
@@ -34,16 +36,23 @@ fn moved(n: Number, p: usize) -> Number
     }
 }
 
+// The commonest numbers are read on just their bytes: one comparison tells that they are there.
 pub fn int16_at(s: &[u8], p: usize) -> Number
     ensures { λ r. ⌜ ofNumber r ≡ on (cell w16) (now (s .entry)) p ⌝ }
 {
-    moved(numbers::int16(parts::rest(s, p)), p)
+    if p < less(s.len(), 1) {
+        return moved(numbers::int16(&s[p..p + 2]), p);
+    }
+    Number::Refused(at(BYTES_END, p))
 }
 
 pub fn int32_at(s: &[u8], p: usize) -> Number
     ensures { λ r. ⌜ ofNumber r ≡ on (cell w32) (now (s .entry)) p ⌝ }
 {
-    moved(numbers::int32(parts::rest(s, p)), p)
+    if p < less(s.len(), 3) {
+        return moved(numbers::int32(&s[p..p + 4]), p);
+    }
+    Number::Refused(at(BYTES_END, p))
 }
 
 pub fn int64_at(s: &[u8], p: usize) -> Number
@@ -174,7 +183,10 @@ pub fn boolean_at(s: &[u8], p: usize) -> Flag
 pub fn count_at(s: &[u8], p: usize) -> Count
     ensures { λ r. ⌜ ofCount r ≡ on (counted (fixed w32 kept)) (now (s .entry)) p ⌝ }
 {
-    match counts::length32(parts::rest(s, p)) {
+    if less(s.len(), 3) <= p {
+        return Count::Refused(at(BYTES_END, p));
+    }
+    match counts::length32(&s[p..p + 4]) {
         Count::Null { used } => Count::Null { used: p + used },
         Count::Took { count, used } => Count::Took {
             count,

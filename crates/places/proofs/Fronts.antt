@@ -1,0 +1,79 @@
+-- A primitive of k bytes: on just these it answers as on all that is left, and with fewer the bytes end.
+use mathlib.Core.Bool.{Bool, false, true}
+use mathlib.Core.List.{List}
+use mathlib.Core.Path.{_∙_, _≡_, ap, refl, sym}
+use Prim.Native.Nat.{_+_, _-_, _<_, _≤_, ℕ}
+use native.Mathlib.Nat.{le-refl}
+use native.Mathlib.Omega.{arith}
+use lib.ListN.{drop, length, length-drop, take}
+use lib.Seq.{length-take-le, take-take}
+use Rattle.layout.specs.Reading.{Reader, Refusal, Res, bad, because, fail, give, more, next, ok, pick, placed, primitive, then}
+use Rattle.layout.specs.Primitives.{Null, Width, be, cell, checked, fixed, int, lengthOf, size}
+use Rattle.layout.proofs.Steps.{int-bad, int-ok, then-bad}
+use Rattle.fields.specs.Answers.{counted}
+use Rattle.rows.specs.Walk.{on}
+use Rattle.places.proofs.OnRest.{Portable, no-at}
+
+pub record Front {A : Type 0} (k : ℕ) (r : Reader A) : Type 0 where
+  pub part : (p : ℕ) (s : List ℕ) → k ≤ length s → r p (take k s) ≡ r p s
+  pub short : (p : ℕ) (s : List ℕ) → length s < k → r p s ≡ bad (because 3 p)
+
+-- a reader that takes no byte
+record Blind {A : Type 0} (r : Reader A) : Type 0 where
+  law : (p : ℕ) (s t : List ℕ) → r p s ≡ r p t
+
+blind-give : {A : Type 0} (x : A) → Blind (give x)
+unfolding give
+blind-give x = record { law = λ p s t. refl }
+
+blind-fail : {A : Type 0} (e : ℕ) → Blind (fail {A = A} e)
+unfolding fail
+blind-fail e = record { law = λ p s t. refl }
+
+blind-pick : {A : Type 0} (b : Bool) (r q : Reader A) → Blind r → Blind q → Blind (pick b r q)
+unfolding pick
+blind-pick true r q h g = h
+blind-pick false r q h g = g
+
+front-int : (k : ℕ) → Front k (int k)
+front-int k = record {
+  part = λ p s h. int-ok k p (take k s) (omega (arith, length-take-le k s h)) ∙ ap (λ (l : List ℕ). ok (be 0 l) k) (take-take k k s (le-refl k)) ∙ sym (int-ok k p s h);
+  short = λ p s h. int-bad k p s h;
+}
+
+front-then : {A B : Type 0} (k : ℕ) (r : Reader A) (f : A → Reader B) → Front k r → ((x : A) → Blind (f x)) → Front k (then r f)
+unfolding then
+front-then {A} k r f h b = record {
+  part = λ p s l. ap (λ o. next o f p (take k s)) (h .part p s l) ∙ go p s (r p s);
+  short = λ p s l. ap (λ o. next o f p s) (h .short p s l);
+}
+  where
+    go : (p : ℕ) (s : List ℕ) (o : Res A) → next o f p (take k s) ≡ next o f p s
+    go p s (ok x n) = ap (more n) (b x .law (p + n) (drop n (take k s)) (drop n s))
+    go p s (bad e) = refl
+
+front-primitive : {A : Type 0} (k : ℕ) (r : Reader A) → Front k r → Front k (primitive r)
+unfolding primitive
+front-primitive k r h = record { part = λ p s l. ap (placed p) (h .part p s l); short = λ p s l. ap (placed p) (h .short p s l) }
+
+pub front-cell : (w : Width) → Front (size w) (cell w)
+unfolding cell
+front-cell w = front-then (size w) (int (size w)) _ (front-int (size w)) (λ n. blind-give _)
+
+-- a count with its null, of so many bytes
+pub front-counted : (w : Width) (m : Null) → Front (size w) (counted (fixed w m))
+unfolding counted checked lengthOf
+front-counted w m =
+    front-primitive (size w) _
+    (front-then (size w) _ _ (front-then (size w) (int (size w)) _ (front-int (size w)) (λ n. blind-pick _ _ _ (blind-give _) (blind-pick _ _ _ (blind-give _) (blind-fail _))))
+    (λ n. blind-pick _ _ _ (blind-pick true _ _ (blind-give _) (blind-fail _)) (blind-give _)))
+
+module _ {A : Type 0} (k : ℕ) (r : Reader A) (f : Front k r) (s : List ℕ) (p : ℕ) where
+  -- what was read on the part from p to p + k was read on all that is left
+  pub on-part : p + k ≤ length s → (o : Res A) → o ≡ r 0 (take (p + k - p) (drop p s)) → o ≡ r 0 (drop p s)
+  on-part h o d =
+      let e : p + k - p ≡ k = omega arith in
+      d ∙ ap (λ (n : ℕ). r 0 (take n (drop p s))) e ∙ f .part 0 (drop p s) (omega (arith, length-drop p s))
+
+  pub ended-at : (g : ℕ → A → A) → Portable r g → length s - p < k → (c : Refusal) → c ≡ because 3 p → bad c ≡ on r s p
+  ended-at g h l c d = no-at r g h s (drop p s) p refl (because 3 0) c (sym (f .short 0 (drop p s) (omega (arith, length-drop p s)))) d
