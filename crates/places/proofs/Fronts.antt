@@ -1,18 +1,20 @@
--- A primitive of k bytes: on just these it answers as on all that is left, and with fewer the bytes end.
+-- A primitive of k bytes: on just these it answers as on all that is left, and with fewer the bytes end. And what is read where the bytes are there.
 use mathlib.Core.Bool.{Bool, false, true}
 use mathlib.Core.List.{List}
 use mathlib.Core.Path.{_∙_, _≡_, ap, refl, sym}
-use Prim.Native.Nat.{_+_, _-_, _<_, _≤_, ℕ}
-use native.Mathlib.Nat.{le-refl}
+use Prim.Native.Nat.{_*_, _+_, _-_, _<_, _≤_, ℕ}
+use native.Mathlib.Nat.{add-zero, le-refl}
 use native.Mathlib.Omega.{arith}
-use lib.ListN.{drop, length, length-drop, take}
-use lib.Seq.{length-take-le, take-take}
+use lib.ListN.{drop, getD, length, length-drop, take}
+use lib.Seq.{getD-drop, length-take-le, take-take}
 use Rattle.layout.specs.Reading.{Reader, Refusal, Res, bad, because, fail, give, more, next, ok, pick, placed, primitive, then}
-use Rattle.layout.specs.Primitives.{Null, Width, be, cell, checked, fixed, int, lengthOf, size}
-use Rattle.layout.proofs.Steps.{int-bad, int-ok, then-bad}
+use Rattle.layout.specs.Primitives.{Null, Width, be, cell, cellOf, checked, fixed, int, lengthOf, signed, size, unsigned}
+use Rattle.layout.proofs.Steps.{int-bad, int-ok, then-ok}
+use Rattle.primitives.proofs.Varint.{ended, start}
 use Rattle.fields.specs.Answers.{counted}
 use Rattle.rows.specs.Walk.{on}
-use Rattle.places.proofs.OnRest.{Portable, no-at}
+use Rattle.rows.proofs.Moves.{still}
+use Rattle.places.proofs.OnRest.{Portable, no-at, portable-unsigned, took-at}
 
 pub record Front {A : Type 0} (k : ℕ) (r : Reader A) : Type 0 where
   pub part : (p : ℕ) (s : List ℕ) → k ≤ length s → r p (take k s) ≡ r p s
@@ -77,3 +79,18 @@ module _ {A : Type 0} (k : ℕ) (r : Reader A) (f : Front k r) (s : List ℕ) (p
 
   pub ended-at : (g : ℕ → A → A) → Portable r g → length s - p < k → (c : Refusal) → c ≡ because 3 p → bad c ≡ on r s p
   ended-at g h l c d = no-at r g h s (drop p s) p refl (because 3 0) c (sym (f .short 0 (drop p s) (omega (arith, length-drop p s)))) d
+
+-- a number whose bytes are there is read
+pub cell-at : (w : Width) (s : List ℕ) (p : ℕ) → p + size w ≤ length s → ok (cellOf (signed w (be 0 (take (size w) (drop p s))))) (p + size w) ≡ on (cell w) s p
+unfolding on cell give
+cell-at w s p h =
+    sym
+    (ap (more p) (then-ok (int (size w)) _ p (drop p s) (be 0 (take (size w) (drop p s))) (size w) (int-ok (size w) p (drop p s) (omega (arith, length-drop p s))))
+    ∙ ap (λ (n : ℕ). ok (cellOf (signed w (be 0 (take (size w) (drop p s))))) (p + n)) (add-zero (size w)))
+
+-- a varint of one byte
+pub byte-at : (s : List ℕ) (p b : ℕ) → b ≡ getD s p 0 → p < length s → b < 128 → ok b (p + 1) ≡ on unsigned s p
+byte-at s p b e h l =
+    let d : b ≡ getD (drop p s) 0 0 = e ∙ sym (getD-drop p s 0 0 ∙ ap (λ (n : ℕ). getD s n 0) (add-zero p)) in
+    let v : b ≡ 0 + b * 1 = omega arith in
+    took-at unsigned still portable-unsigned s (drop p s) p refl b 1 (ap (λ (n : ℕ). ok n 1) v ∙ ended (drop p s) 1 0 0 b d (omega (arith, length-drop p s)) 9 (omega arith) (start (drop p s)) l)

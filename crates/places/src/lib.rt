@@ -61,9 +61,19 @@ pub fn int64_at(s: &[u8], p: usize) -> Number
     moved(numbers::int64(parts::rest(s, p)), p)
 }
 
+// Most varints have one byte.
 pub fn varint_at(s: &[u8], p: usize) -> Number
     ensures { λ r. ⌜ ofNumber r ≡ on unsigned (now (s .entry)) p ⌝ }
 {
+    if p < s.len() {
+        let b = s[p];
+        if b < 128 {
+            return Number::Took {
+                value: b as u64,
+                used: p + 1,
+            };
+        }
+    }
     moved(numbers::unsigned_varint(parts::rest(s, p)), p)
 }
 

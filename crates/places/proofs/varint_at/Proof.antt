@@ -1,8 +1,22 @@
--- The step on the rest is a read at the place where the rest starts.
+-- A byte below 128 is the number; else the step on the rest is a read at the place where the rest starts.
+use mathlib.Core.Path.{refl}
+use Rattle.places.proofs.Fronts.{byte-at}
 use Rattle.places.proofs.OnRest.{at-place, fits, portable-unsigned}
 use borrow.Author.Needs.{needs}
 use Rattle.places.proofs.varint_at.Statement.{statement}
 use Rattle.places.proofs.varint_at.Tie as tie
+
+shared-slice-read-b : tie.Need-shared-slice-read-b
+shared-slice-read-b c = search needs
+
+cast-t9 : tie.Need-cast-t9
+cast-t9 c = search needs
+
+add-t10 : tie.Need-add-t10
+add-t10 c = search needs
+
+returns : tie.Need-returns
+returns c = byte-at _ _ _ refl (c .before .before .if1 .taken) (c .if2 .taken)
 
 rest-requires : tie.Need-rest-requires
 rest-requires c κs = search needs
@@ -13,8 +27,18 @@ unsigned-varint-requires c κs = search needs
 moved-requires : tie.Need-moved-requires
 moved-requires c κs = fits _ _ (portable-unsigned) _ _ _ (c .before .rest .ensures) (search needs) (search needs) _ (c .unsigned-varint .ensures)
 
-returns : tie.Need-returns
-returns c = at-place _ _ (portable-unsigned) _ _ _ (c .before .before .rest .ensures) _ _ (c .before .unsigned-varint .ensures) (c .moved .ensures)
+returns-2 : tie.Need-returns-2
+returns-2 c = at-place _ _ (portable-unsigned) _ _ _ (c .before .before .rest .ensures) _ _ (c .before .unsigned-varint .ensures) (c .moved .ensures)
 
 pub varint-at-spec : {M : Type 1} → statement M
-varint-at-spec = tie.close (tie.spec rest-requires unsigned-varint-requires moved-requires returns)
+varint-at-spec =
+    tie.close
+    (tie.spec
+    shared-slice-read-b
+    cast-t9
+    add-t10
+    returns
+    rest-requires
+    unsigned-varint-requires
+    moved-requires
+    returns-2)
