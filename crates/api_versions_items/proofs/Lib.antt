@@ -1,2 +1,4 @@
 -- an item into the tables
 pub mod ItemRows
+-- an item without tags
+pub mod BareRows

@@ -1,12 +1,15 @@
 -- What the walks over items say in the definition's words. Table 0 is the body's own row, 1 the items, 2 the tags.
-use mathlib.Core.Bool.{Bool}
+use mathlib.Core.Bool.{Bool, false}
 use mathlib.Core.List.{List, [], _∷_}
-use Prim.Native.Nat.{ℕ}
+use mathlib.Core.Path.{_≡_}
+use Prim.Native.Nat.{_+_, ℕ}
 use Rattle.layout.specs.Reading.{Res, bad, ok}
 use Rattle.layout.specs.Rows.{Value}
+use Rattle.layout.specs.Read.{byPlace, read}
 use Rattle.layout.specs.Tables.{Span}
 use Rattle.primitives.specs.Answers.{ofRefusal}
-use Rattle.rows.specs.Store.{State, own, tab}
+use Rattle.rows.specs.Store.{State, own, store, tab}
+use Rattle.rows.specs.Walk.{on}
 use Rattle.api_versions_items.specs.Shapes.{keyFront}
 use Rattle.api_versions_items.specs.declared.Key.{Key}
 use Rattle.api_versions_items.specs.declared.Rows.{Rows}
@@ -22,3 +25,11 @@ inTables is i ts t e = own (e .1) ∷ tab is i ∷ tab ts t ∷ []
 abbrev pub rowsIs : List ℕ → List ℕ → Rows → Bool × List ℕ → Res State
 rowsIs is ts (Rows.Took n i t) e = ok (inTables is i ts t e) n
 rowsIs is ts (Rows.Refused c) e = bad (ofRefusal c)
+
+-- the table l of items with the row of the one at place p, which has no tags, behind the mark k
+pub record Bare (s : List ℕ) (p : ℕ) (l : List ℕ) (k : ℕ) (l′ : List ℕ) (k′ : ℕ) : Type 0 where
+  pub key : ℕ
+  pub min : ℕ
+  pub max : ℕ
+  pub reads : ok (key, (min, (max, tt))) (p + 6) ≡ on (read (byPlace false) keyFront) s p
+  pub stored : tab l′ k′ ≡ store (tab l k) (key ∷ min ∷ max ∷ 0 ∷ [])

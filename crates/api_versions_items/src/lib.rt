@@ -1,15 +1,19 @@
 // The items of an ApiVersions response: a row of key, minimum, maximum and number of tags each goes to one lent table, their tags to another.
 ghost use mathlib.Core.Path.{_≡_};
 ghost use mathlib.Core.Bool.{false};
+ghost use Prim.Native.Nat.{_+_, _≤_};
+ghost use lib.ListN.{length};
 ghost use Rattle.layout.specs.Reading.{loop};
 ghost use Rattle.layout.specs.Read.{byPlace, read};
 ghost use Rattle.rows.specs.Walk.{Runs, on, walk};
 ghost use Rattle.tags.specs.Answers as Tags;
 ghost use Rattle.api_versions_items.specs.Shapes.{keyFront, keyShape, tagsIf};
-ghost use Rattle.api_versions_items.specs.Walks.{inTables, ofKey, rowsIs};
+ghost use Rattle.api_versions_items.specs.Walks.{Bare, inTables, ofKey, rowsIs};
 use places::int16_at;
 use primitives::Number;
 use primitives::Refusal;
+use rows::less;
+use rows::skip4;
 use rows::store4;
 use tags::Walked;
 use tags::tag_buffer_at;
@@ -81,8 +85,27 @@ fn key_at(s: &[u8], p: usize) -> Key
     }
 }
 
+// The row of an item without tags, from its numbers; where it has no room they are passed over.
+fn bare_in(s: &[u8], p: usize, items: &mut [u64], row: usize) -> usize
+    requires { ⌜ p + 6 ≤ length (now s) ⌝ }
+    ensures { λ r. ⌜ Bare (now (s .entry)) p (now (items .entry)) row (now (items .exit)) r ⌝ }
+{
+    if items.len() <= row {
+        return skip4(row);
+    }
+    match key_at(s, p) {
+        Key::Took {
+            key,
+            min,
+            max,
+            next: _,
+        } => store4(items, row, key, min, max, 0),
+        Key::Refused(_) => row,
+    }
+}
+
 // One item into the tables, where there is room.
-fn item_at(
+fn any_item_at(
     s: &[u8],
     p: usize,
     flexible: bool,
@@ -114,6 +137,32 @@ fn item_at(
         }
         Key::Refused(e) => Rows::Refused(e),
     }
+}
+
+// The same. Most items have no tags: their bytes are there, and the last is 0.
+fn item_at(
+    s: &[u8],
+    p: usize,
+    flexible: bool,
+    items: &mut [u64],
+    row: usize,
+    tags: &mut [u64],
+    tag: usize,
+) -> Rows
+    ensures { λ r. ⌜ Runs (λ e. walk (e .0) (keyShape flexible) 1) (now (s .entry)) p (inTables (now (items .entry)) row (now (tags .entry)) tag) (rowsIs (now (items .exit)) (now (tags .exit)) r) ⌝ }
+{
+    if flexible {
+        if p < less(s.len(), 6) {
+            if s[p + 6] == 0 {
+                return Rows::Took {
+                    next: p + 7,
+                    items: bare_in(s, p, items, row),
+                    tags: tag,
+                };
+            }
+        }
+    }
+    any_item_at(s, p, flexible, items, row, tags, tag)
 }
 
 // `count` items from place p on, from the start of the tables on.

@@ -1,9 +1,10 @@
 -- The number of tags and the tags at the end of a row: each way out of the walk over them.
 use mathlib.Core.Bool.{Bool, false}
 use mathlib.Core.List.{List, [], _∷_}
-use mathlib.Core.Path.{_∙_, _≡_, ap, sym}
-use Prim.Native.Nat.{_+_, _-_, ℕ}
+use mathlib.Core.Path.{_∙_, _≡_, ap, refl, sym}
+use Prim.Native.Nat.{_+_, _-_, _<_, ℕ}
 use native.Mathlib.Omega.{arith}
+use lib.ListN.{getD, length}
 use Rattle.layout.specs.Reading.{Refusal, bad, loop, ok}
 use Rattle.layout.specs.Primitives.{plain, unsigned}
 use Rattle.layout.specs.Rows.{end}
@@ -13,6 +14,8 @@ use Rattle.primitives.specs.declared.Refusal as Code
 use Rattle.rows.specs.Store.{State, Tab, add, store, tab}
 use Rattle.rows.specs.Walk.{Place, Places, Runs, on, walk}
 use Rattle.rows.proofs.Arrays.{array-no, array-no-count, array-took, row-end}
+use Rattle.rows.proofs.Steps.{give-took}
+use Rattle.places.proofs.Fronts.{byte-at}
 use Rattle.tags.specs.Answers.{inTable, inTableIs, inTables, inTablesIs, tagShape, tagsShape}
 use Rattle.tags.specs.declared.Tags.{Tags}
 use Rattle.tags.specs.declared.Walked.{Walked}
@@ -46,3 +49,8 @@ module _ (s : List ℕ) (p : ℕ) (l : List ℕ) (k : ℕ) where
       where
         inTablesIs-state : Bool × Places × Tab → ℕ → State
         inTablesIs-state e j = e .1 .h (store (e .2) (n ∷ [])) (tab l′ j)
+
+  -- the byte 0 is no tags
+  pub buffer-empty : p < length s → 0 ≡ getD s p 0 → Runs (λ e. walk (e .0) (tagsShape (e .1 .t)) (e .1 .o)) s p (inTables l k) (inTablesIs l (Walked.Took 0 (p + 1) k))
+  unfolding loop
+  buffer-empty h e = buffer-took 0 (p + 1) (byte-at s p 0 e h (omega arith)) l (Tags.Took (p + 1) k) (record { law = λ z. give-took (inTable l k z) s (p + 1) }) (p + 1) k refl

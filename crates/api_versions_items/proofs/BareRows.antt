@@ -1,0 +1,59 @@
+-- An item without tags whose bytes are there: its numbers are read, its row is stored or passed over, and the byte behind them is 0.
+use mathlib.Core.Bool.{Bool, false, true}
+use mathlib.Core.List.{List, [], _∷_}
+use mathlib.Core.Path.{_∙_, _≡_, ap, refl, sym}
+use Prim.Native.Nat.{_+_, _<_, _≤_, ℕ}
+use native.Mathlib.Omega.{arith}
+use lib.ListN.{drop, getD, length, take}
+use Rattle.layout.specs.Reading.{Res, ok}
+use Rattle.layout.specs.Primitives.{be, cellOf, signed, w16}
+use Rattle.layout.specs.Read.{byPlace, read}
+use Rattle.layout.specs.Rows.{Value}
+use Rattle.layout.specs.Tables.{Span}
+use Rattle.layout.proofs.Local.{not-ok}
+use Rattle.primitives.specs.declared.Refusal as Code
+use Rattle.rows.specs.Store.{step, store, tab}
+use Rattle.rows.specs.Walk.{Runs, on, walk}
+use Rattle.rows.proofs.Stores.{four-out}
+use Rattle.places.proofs.Fronts.{cell-at}
+use Rattle.tags.specs.declared.Walked.{Walked}
+use Rattle.tags.proofs.Count.{buffer-empty}
+use Rattle.api_versions_items.specs.Shapes.{keyFront, keyShape}
+use Rattle.api_versions_items.specs.Walks.{Bare, inTables, ofKey, rowsIs}
+use Rattle.api_versions_items.specs.declared.Key.{Key}
+use Rattle.api_versions_items.specs.declared.Rows.{Rows}
+use Rattle.api_versions_items.proofs.ItemRows.{item-took, key-took, tags-there}
+
+module _ (s : List ℕ) (p : ℕ) (h : p + 6 ≤ length s) where
+  -- the number at a place
+  abbrev num : ℕ → ℕ
+  num q = cellOf (signed w16 (be 0 (take 2 (drop q s))))
+
+  there : ok (num p, (num (p + 2), (num (p + 2 + 2), tt))) (p + 6) ≡ on (read (byPlace false) keyFront) s p
+  there =
+      let e : p + 6 ≡ p + 2 + 2 + 2 = omega arith in
+      ap (ok (num p, (num (p + 2), (num (p + 2 + 2), tt)))) e
+      ∙ key-took s p _ (p + 2) (cell-at w16 s p (omega arith)) _ (p + 2 + 2) (cell-at w16 s (p + 2) (omega arith)) _ (p + 2 + 2 + 2) (cell-at w16 s (p + 2 + 2) (omega arith))
+
+  pub bare-out : (l : List ℕ) (k n : ℕ) → n ≡ step (step (step (step k))) → length l ≤ k → Bare s p l k l n
+  bare-out l k n e i = record { key = num p; min = num (p + 2); max = num (p + 2 + 2); reads = there; stored = four-out l k _ _ _ 0 n e i }
+
+  module _ (r : Key) (d : ofKey r ≡ on (read (byPlace false) keyFront) s p) where
+    pub bare-stored : (a b c n : ℕ) → r ≡ Key.Took a b c n → (l : List ℕ) (k : ℕ) (l′ : List ℕ) (m : ℕ) → tab l′ m ≡ store (tab l k) (a ∷ b ∷ c ∷ 0 ∷ []) → Bare s p l k l′ m
+    bare-stored a b c n e l k l′ m i =
+        let g : ok (a, (b, (c, tt))) n ≡ on (read (byPlace false) keyFront) s p = ap ofKey (sym e) ∙ d in
+        let j : n ≡ p + 6 = used (g ∙ sym there) in
+        record { key = a; min = b; max = c; reads = ap (ok (a, (b, (c, tt)))) (sym j) ∙ g; stored = i }
+      where
+        used : {x y : Value Span keyFront} {u v : ℕ} → ok x u ≡ ok y v → u ≡ v
+        used q = cc
+
+    pub bare-never : {X : Type 0} (e : Code.Refusal) → r ≡ Key.Refused e → X
+    bare-never e i = not-ok (ap ofKey (sym i) ∙ d ∙ sym there)
+
+pub bare-item : (f : Bool) (s : List ℕ) (p : ℕ) (is : List ℕ) (i : ℕ) (ts : List ℕ) (t : ℕ) → f ≡ true → p + 6 < length s → getD s (p + 6) 0 ≡ 0 → (is′ : List ℕ) (m : ℕ) → Bare s p is i is′ m →
+    Runs (λ e. walk (e .0) (keyShape f) 1) s p (inTables is i ts t) (rowsIs is′ ts (Rows.Took (p + 7) m t))
+bare-item f s p is i ts t e h z is′ m b =
+    let n : p + 6 + 1 ≡ p + 7 = omega arith in
+    item-took f s p is i ts t (Key.Took (b .key) (b .min) (b .max) (p + 6)) (b .reads) _ _ _ _ refl ts (Walked.Took 0 (p + 6 + 1) t)
+    (tags-there f s (p + 6) ts t e ts (Walked.Took 0 (p + 6 + 1) t) (buffer-empty s (p + 6) ts t h (sym z))) 0 (p + 7) t (ap (λ (u : ℕ). Walked.Took 0 u t) n) is′ m (b .stored)
