@@ -5,5 +5,5 @@ pub mod Lines
 pub mod Rest
 -- the whole text
 pub mod Steps
--- eight bytes in one
-pub mod Or
+-- eight bytes in one number
+pub mod Eight

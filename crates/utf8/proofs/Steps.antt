@@ -1,4 +1,5 @@
 -- A text walked character by character. Assumes nothing.
+use mathlib.Core.Bool.{Bool, false, true}
 use mathlib.Core.List.{List, [], _∷_}
 use mathlib.Core.Path.{_≡_, _∙_, ap, subst, sym}
 use Prim.Native.Nat.{ℕ, zero, suc, _+_, _-_, _≤_, _<_}
@@ -7,7 +8,7 @@ use lib.ListN.{length, length-drop, drop, getD}
 use lib.Seq.{drop-cons, drop-drop}
 use borrow.Author.Tests.{le-leb}
 use Rattle.layout.specs.Utf8.{begins, characters, first, wellFormed, within}
-use Rattle.utf8.specs.Class.{Above, Along}
+use Rattle.utf8.specs.Class.{Along, Ascii, Ended}
 use Rattle.layout.proofs.Text.{characters-rise, first-at, first-fits, front-stop, front-step, front-fits}
 
 pub start : (s : List ℕ) → Along s 0
@@ -37,8 +38,22 @@ next-all s at (suc n) a h f =
     let b = next-all s at n a (omega arith) (λ i g. f i (omega arith)) in
     subst (Along s) (omega arith) (next-ascii s (at + n) b (omega arith) (f n (omega arith)))
 
-pub next-eight : (s : List ℕ) (at n : ℕ) → Along s at → 8 ≤ length s - at → Above s at n → n < 128 → Along s (at + 8)
-next-eight s at n a h b l = next-all s at 8 a (omega arith) (λ i g. let e = b .each i g in omega arith)
+pub next-eight : (s : List ℕ) (at : ℕ) (r : Bool) → Along s at → 8 ≤ length s - at → Ascii s at r → r ≡ true → Along s (at + 8)
+next-eight s at r a h b e = next-all s at 8 a (omega arith) (b .each e)
+
+-- the last eight bytes have those that are left
+pub ended-eight : (s : List ℕ) (from : ℕ) (r : Bool) → Along s from → 8 ≤ length s → length s - 8 ≤ from → Ascii s (length s - 8) r → Ended s r
+ended-eight s from r a h l b = record {
+  all = λ e.
+      let f = a .fits in
+      let n : from + (length s - from) ≡ length s = omega arith in
+      subst (Along s) n (next-all s from (length s - from) a (omega arith) (λ i g.
+      let d : length s - 8 + (from + i - (length s - 8)) ≡ from + i = omega arith in
+      subst (λ (k : ℕ). getD s k 0 < 128) d (b .each e (from + i - (length s - 8)) (omega arith))));
+}
+
+pub not-ended : (s : List ℕ) → Ended s false
+not-ended s = record { all = λ e. let z : _≡_ {A = ℕ} 0 1 = cc in absurd (omega arith) }
 
 pub stop : (s : List ℕ) (at n : ℕ) → Along s at → n ≡ first characters (drop at s) → n ≡ 0 → at ≡ wellFormed s
 stop s at n a e z = let k = a .kept in omega (arith, front-stop (drop at s) (sym e ∙ z))

@@ -1,8 +1,8 @@
 -- The class of a byte is the line of the grammar whose characters it begins, counted from 0; 9, their count, if it begins none. Assumes nothing.
-use mathlib.Core.Bool.{Bool, false, cond}
+use mathlib.Core.Bool.{Bool, false, true, cond}
 use mathlib.Core.List.{List, [], _∷_}
 use mathlib.Core.Path.{_≡_}
-use Prim.Native.Nat.{ℕ, suc, _+_, _<_, _≤_}
+use Prim.Native.Nat.{ℕ, suc, _+_, _*_, _<_, _≤_}
 use lib.ListN.{length, drop, getD}
 use Rattle.layout.specs.Utf8.{Range, within, characters, begins, wellFormed}
 
@@ -39,6 +39,13 @@ pub record Along (s : List ℕ) (at : ℕ) : Type 0 where
   pub fits : at ≤ length s
   pub kept : wellFormed s ≡ at + wellFormed (drop at s)
 
--- a number that is no less than any of the eight bytes from a place
-pub record Above (s : List ℕ) (at n : ℕ) : Type 0 where
-  pub each : (i : ℕ) → i < 8 → getD s (at + i) 0 ≤ n
+-- r tells no more than that the eight bytes from a place are ASCII, and that all of them are to the end
+pub record Ascii (s : List ℕ) (at : ℕ) (r : Bool) : Type 0 where
+  pub each : r ≡ true → (i : ℕ) → i < 8 → getD s (at + i) 0 < 128
+
+pub record Ended (s : List ℕ) (r : Bool) : Type 0 where
+  pub all : r ≡ true → Along s (length s)
+
+-- four bytes from a place, the first one lowest
+abbrev pub fourOf : List ℕ → ℕ → ℕ
+fourOf s at = ((getD s (at + 3) 0 * 256 + getD s (at + 2) 0) * 256 + getD s (at + 1) 0) * 256 + getD s at 0

@@ -7,7 +7,10 @@ ghost use mathlib.Core.Path.{_≡_};
 ghost use Prim.Native.Nat.{_+_, _<_, _≤_};
 ghost use lib.ListN.{length, drop};
 ghost use Rattle.layout.specs.Utf8.{characters, first, tail, utf8, wellFormed, within};
-ghost use Rattle.utf8.specs.Class.{Above, Along, Right, after, classOf, secondOf};
+ghost use Rattle.utf8.specs.Class.{Along, Ascii, Ended, Right, after, classOf, fourOf, secondOf};
+
+// The high bit of each of eight bytes.
+const HIGH: u64 = 9259542123273814144;
 
 fn class(classes: &[u8; 256], b: u8) -> u8
     requires { ⌜ Right (now classes) ⌝ }
@@ -119,12 +122,26 @@ fn character(classes: &[u8; 256], s: &[u8], at: usize) -> usize
     0
 }
 
-// Eight bytes in one: at least as great as each of them.
-fn any(s: &[u8], at: usize) -> u8
-    requires { ⌜ at + 8 ≤ length (now s) ⌝ }
-    ensures { λ r. ⌜ Above (now (s .entry)) at r ⌝ }
+fn wide(b: u8) -> u64
+    ensures { λ r. ⌜ (r ≡ b) × (r < 256) ⌝ }
 {
-    s[at] | s[at + 1] | s[at + 2] | s[at + 3] | s[at + 4] | s[at + 5] | s[at + 6] | s[at + 7]
+    b as u64
+}
+
+// Four bytes in one number.
+fn quad(s: &[u8], at: usize) -> u64
+    requires { ⌜ at + 4 ≤ length (now s) ⌝ }
+    ensures { λ r. ⌜ (r ≡ fourOf (now (s .entry)) at) × (r < 4294967296) ⌝ }
+{
+    ((wide(s[at + 3]) * 256 + wide(s[at + 2])) * 256 + wide(s[at + 1])) * 256 + wide(s[at])
+}
+
+// Eight bytes at once: ASCII if none has its high bit.
+fn is_ascii(s: &[u8], at: usize) -> bool
+    requires { ⌜ at + 8 ≤ length (now s) ⌝ }
+    ensures { λ r. ⌜ Ascii (now (s .entry)) at r ⌝ }
+{
+    (quad(s, at + 4) * 4294967296 + quad(s, at)) & HIGH == 0
 }
 
 // ASCII at the front, by eights.
@@ -133,19 +150,36 @@ fn eights(s: &[u8]) -> usize
 {
     let mut at: usize = 0;
     while 8 <= s.len() - at {
-        if 128 <= any(s, at) {
+        if is_ascii(s, at) {
+            at = at + 8;
+        } else {
             return at;
         }
-        at = at + 8;
     }
     at
 }
 
-// More of it, byte by byte. Most texts are ASCII to their end, and then the table is not made.
+// Whether the rest is ASCII by the last eight bytes, some of which may have been seen before.
+fn ends_ascii(s: &[u8], from: usize) -> bool
+    requires { ⌜ Along (now s) from ⌝ }
+    ensures { λ r. ⌜ Ended (now (s .entry)) r ⌝ }
+{
+    if 8 <= s.len() {
+        if s.len() - 8 <= from {
+            return is_ascii(s, s.len() - 8);
+        }
+    }
+    false
+}
+
+// More of it, by the last eight or byte by byte. Most texts are ASCII to their end, and then the table is not made.
 fn plain(s: &[u8], from: usize) -> usize
     requires { ⌜ Along (now s) from ⌝ }
     ensures { λ r. ⌜ Along (now (s .entry)) r ⌝ }
 {
+    if ends_ascii(s, from) {
+        return s.len();
+    }
     let mut at = from;
     while at < s.len() {
         if 128 <= s[at] {

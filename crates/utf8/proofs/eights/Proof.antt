@@ -18,11 +18,8 @@ loop-holds c = start _
 sub-loop : tie.Need-sub-loop Inv-loop μ-loop
 sub-loop c = search needs
 
-any-requires : tie.Need-any-requires Inv-loop μ-loop
-any-requires c κs = search needs
-
-returns : tie.Need-returns Inv-loop μ-loop
-returns c = search needs
+is-ascii-requires : tie.Need-is-ascii-requires Inv-loop μ-loop
+is-ascii-requires c κs = search needs
 
 add-at : tie.Need-add-at Inv-loop μ-loop
 add-at c = search needs
@@ -32,6 +29,9 @@ loop-less c = search needs
 
 loop-again : tie.Need-loop-again Inv-loop μ-loop
 loop-again c = search (needs, next-eight)
+
+returns : tie.Need-returns Inv-loop μ-loop
+returns c = search needs
 
 returns-2 : tie.Need-returns-2 Inv-loop μ-loop
 returns-2 c = search needs
@@ -44,9 +44,9 @@ eights-spec =
     μ-loop
     loop-holds
     sub-loop
-    any-requires
-    returns
+    is-ascii-requires
     add-at
     loop-less
     loop-again
+    returns
     returns-2)
