@@ -19,10 +19,10 @@ add-t6 : tie.Need-add-t6
 add-t6 c = record { fits = c .before .before .before .pre .law _ (ap ofField (c .before .field .given .1)) }
 
 returns : tie.Need-returns
-returns c = search needs
+returns c = ap (furtherField _) (sym (ap ofField (c .enum-told .given .1)))
 
 returns-2 : tie.Need-returns-2
-returns-2 c = search needs
+returns-2 c = ap (furtherField _) (sym (ap ofField (c .enum-told2 .given .1)))
 
 returns-3 : tie.Need-returns-3
 returns-3 c = ap (furtherField _) (sym (ap ofField (c .before .field .given .1)))
