@@ -176,29 +176,27 @@ pub fn items_in(
 ) -> Rows
     ensures { λ r. ⌜ Runs (λ e. loop count (walk (e .0) (keyShape flexible) 1)) (now (s .entry)) p (inTables (now (items .entry)) 0 (now (tags .entry)) 0) (rowsIs (now (items .exit)) (now (tags .exit)) r) ⌝ }
 {
-    let mut left = count;
-    let mut place = p;
+    let mut next = p;
     let mut row: usize = 0;
     let mut tag: usize = 0;
+    let mut left = count;
     while 0 < left {
-        match item_at(s, place, flexible, items, row, tags, tag) {
+        left = left - 1;
+        match item_at(s, next, flexible, items, row, tags, tag) {
             Rows::Took {
-                next,
+                next: q,
                 items: below,
                 tags: last,
             } => {
-                place = next;
+                next = q;
                 row = below;
                 tag = last;
-                left = left - 1;
             }
-            Rows::Refused(e) => {
-                return Rows::Refused(e);
-            }
+            Rows::Refused(e) => return Rows::Refused(e),
         }
     }
     Rows::Took {
-        next: place,
+        next,
         items: row,
         tags: tag,
     }

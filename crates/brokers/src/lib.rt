@@ -151,23 +151,18 @@ fn broker_at(s: &[u8], p: usize, racked: bool, table: &mut [u64], mark: usize) -
 pub fn brokers_in(s: &[u8], p: usize, racked: bool, count: u64, table: &mut [u64]) -> Filled
     ensures { λ r. ⌜ Runs (λ e. loop count (walk false (brokerShape racked) 1)) (now (s .entry)) p (atBrokers (now (table .entry)) 0) (filledIs (now (table .exit)) r) ⌝ }
 {
+    let mut next = p;
+    let mut mark: usize = 0;
     let mut left = count;
-    let mut place = p;
-    let mut behind: usize = 0;
     while 0 < left {
-        match broker_at(s, place, racked, table, behind) {
-            Filled::Took { next, mark } => {
-                place = next;
-                behind = mark;
-                left = left - 1;
+        left = left - 1;
+        match broker_at(s, next, racked, table, mark) {
+            Filled::Took { next: q, mark: m } => {
+                next = q;
+                mark = m;
             }
-            Filled::Refused(e) => {
-                return Filled::Refused(e);
-            }
+            Filled::Refused(e) => return Filled::Refused(e),
         }
     }
-    Filled::Took {
-        next: place,
-        mark: behind,
-    }
+    Filled::Took { next, mark }
 }

@@ -38,25 +38,20 @@ fn pair_at(s: &[u8], p: usize, table: &mut [u64], mark: usize) -> Filled
 fn pairs_in(s: &[u8], p: usize, count: u64, table: &mut [u64], mark: usize) -> Filled
     ensures { λ r. ⌜ Runs (λ e. loop count (walk false (abortedShape true) (e .o))) (now (s .entry)) p (inPlace (now (table .entry)) mark) (filledIs (now (table .exit)) r) ⌝ }
 {
+    let mut next = p;
+    let mut mark = mark;
     let mut left = count;
-    let mut place = p;
-    let mut behind = mark;
     while 0 < left {
-        match pair_at(s, place, table, behind) {
-            Filled::Took { next, mark: last } => {
-                place = next;
-                behind = last;
-                left = left - 1;
+        left = left - 1;
+        match pair_at(s, next, table, mark) {
+            Filled::Took { next: q, mark: m } => {
+                next = q;
+                mark = m;
             }
-            Filled::Refused(e) => {
-                return Filled::Refused(e);
-            }
+            Filled::Refused(e) => return Filled::Refused(e),
         }
     }
-    Filled::Took {
-        next: place,
-        mark: behind,
-    }
+    Filled::Took { next, mark }
 }
 
 // The array at place p; `stable`: the version has it. Where it has not, there is no byte of it.

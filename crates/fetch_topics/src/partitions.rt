@@ -138,23 +138,18 @@ pub(crate) fn partitions_in(
 ) -> Marked
     ensures { λ r. ⌜ Runs (λ e. loop count (walk false (partitionShape stable) 2)) (now (s .entry)) p (inPartitions (now (partitions .entry)) (now (aborted .entry)) marks) (partitionsIs (now (partitions .exit)) (now (aborted .exit)) r) ⌝ }
 {
+    let mut next = p;
+    let mut marks = marks;
     let mut left = count;
-    let mut place = p;
-    let mut behind = marks;
     while 0 < left {
-        match partition_at(s, place, stable, partitions, aborted, behind) {
-            Marked::Took { next, marks: last } => {
-                place = next;
-                behind = last;
-                left = left - 1;
+        left = left - 1;
+        match partition_at(s, next, stable, partitions, aborted, marks) {
+            Marked::Took { next: q, marks: m } => {
+                next = q;
+                marks = m;
             }
-            Marked::Refused(e) => {
-                return Marked::Refused(e);
-            }
+            Marked::Refused(e) => return Marked::Refused(e),
         }
     }
-    Marked::Took {
-        next: place,
-        marks: behind,
-    }
+    Marked::Took { next, marks }
 }

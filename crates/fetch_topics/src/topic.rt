@@ -60,27 +60,22 @@ pub fn topics_in(
 ) -> Marked
     ensures { λ r. ⌜ Runs (λ e. loop count (walk false (topicShape stable) 1)) (now (s .entry)) p (inTopics (now (topics .entry)) (now (partitions .entry)) (now (aborted .entry)) noMarks) (topicsIs (now (topics .exit)) (now (partitions .exit)) (now (aborted .exit)) r) ⌝ }
 {
-    let mut left = count;
-    let mut place = p;
-    let mut behind = Marks {
+    let mut next = p;
+    let mut marks = Marks {
         topics: 0,
         partitions: 0,
         aborted: 0,
     };
+    let mut left = count;
     while 0 < left {
-        match topic_at(s, place, stable, topics, partitions, aborted, behind) {
-            Marked::Took { next, marks } => {
-                place = next;
-                behind = marks;
-                left = left - 1;
+        left = left - 1;
+        match topic_at(s, next, stable, topics, partitions, aborted, marks) {
+            Marked::Took { next: q, marks: m } => {
+                next = q;
+                marks = m;
             }
-            Marked::Refused(e) => {
-                return Marked::Refused(e);
-            }
+            Marked::Refused(e) => return Marked::Refused(e),
         }
     }
-    Marked::Took {
-        next: place,
-        marks: behind,
-    }
+    Marked::Took { next, marks }
 }

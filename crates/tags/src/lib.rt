@@ -120,25 +120,20 @@ fn tag_in(s: &[u8], p: usize, table: &mut [u64], mark: usize) -> Tags
 pub fn tags_at(s: &[u8], p: usize, count: u64, table: &mut [u64], mark: usize) -> Tags
     ensures { λ r. ⌜ Runs (λ e. loop count (walk (e .0) tagShape (e .1 .o))) (now (s .entry)) p (inTable (now (table .entry)) mark) (inTableIs (now (table .exit)) r) ⌝ }
 {
+    let mut next = p;
+    let mut mark = mark;
     let mut left = count;
-    let mut next_place = p;
-    let mut next_mark = mark;
     while 0 < left {
-        match tag_in(s, next_place, table, next_mark) {
-            Tags::Took { next, mark: behind } => {
-                next_place = next;
-                next_mark = behind;
-                left = left - 1;
+        left = left - 1;
+        match tag_in(s, next, table, mark) {
+            Tags::Took { next: q, mark: m } => {
+                next = q;
+                mark = m;
             }
-            Tags::Refused(e) => {
-                return Tags::Refused(e);
-            }
+            Tags::Refused(e) => return Tags::Refused(e),
         }
     }
-    Tags::Took {
-        next: next_place,
-        mark: next_mark,
-    }
+    Tags::Took { next, mark }
 }
 
 // The number of tags and the tags, at the end of a row.

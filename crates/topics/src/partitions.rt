@@ -123,23 +123,18 @@ pub(crate) fn partitions_in(
 ) -> Marked
     ensures { λ r. ⌜ Runs (λ e. loop count (walk false partitionShape 3)) (now (s .entry)) p (inPartitions (now (partitions .entry)) (now (replicas .entry)) (now (synced .entry)) marks) (partitionsIs (now (partitions .exit)) (now (replicas .exit)) (now (synced .exit)) r) ⌝ }
 {
+    let mut next = p;
+    let mut marks = marks;
     let mut left = count;
-    let mut place = p;
-    let mut behind = marks;
     while 0 < left {
-        match partition_at(s, place, partitions, replicas, synced, behind) {
-            Marked::Took { next, marks: last } => {
-                place = next;
-                behind = last;
-                left = left - 1;
+        left = left - 1;
+        match partition_at(s, next, partitions, replicas, synced, marks) {
+            Marked::Took { next: q, marks: m } => {
+                next = q;
+                marks = m;
             }
-            Marked::Refused(e) => {
-                return Marked::Refused(e);
-            }
+            Marked::Refused(e) => return Marked::Refused(e),
         }
     }
-    Marked::Took {
-        next: place,
-        marks: behind,
-    }
+    Marked::Took { next, marks }
 }

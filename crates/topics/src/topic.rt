@@ -122,37 +122,32 @@ pub fn topics_in(
 ) -> Marked
     ensures { λ r. ⌜ Runs (λ e. loop count (walk false (topicShape flagged) 2)) (now (s .entry)) p (inTopics (now (topics .entry)) (now (partitions .entry)) (now (replicas .entry)) (now (synced .entry)) noMarks) (topicsIs (now (topics .exit)) (now (partitions .exit)) (now (replicas .exit)) (now (synced .exit)) r) ⌝ }
 {
-    let mut left = count;
-    let mut place = p;
-    let mut behind = Marks {
+    let mut next = p;
+    let mut marks = Marks {
         topics: 0,
         partitions: 0,
         replicas: 0,
         synced: 0,
     };
+    let mut left = count;
     while 0 < left {
+        left = left - 1;
         match topic_at(
             s,
-            place,
+            next,
             flagged,
             topics,
             partitions,
             replicas,
             synced,
-            behind,
+            marks,
         ) {
-            Marked::Took { next, marks } => {
-                place = next;
-                behind = marks;
-                left = left - 1;
+            Marked::Took { next: q, marks: m } => {
+                next = q;
+                marks = m;
             }
-            Marked::Refused(e) => {
-                return Marked::Refused(e);
-            }
+            Marked::Refused(e) => return Marked::Refused(e),
         }
     }
-    Marked::Took {
-        next: place,
-        marks: behind,
-    }
+    Marked::Took { next, marks }
 }

@@ -10,28 +10,28 @@ use Rattle.api_versions_items.proofs.items_in.Statement.{statement}
 use Rattle.api_versions_items.proofs.items_in.Tie as tie
 
 abbrev Inv-loop : tie.InvT-loop
-Inv-loop s p flexible count items₀ tags₀ left₀ place₀ row₀ tag₀ items tags left place row tag = Going (λ e. walk (e .0) (keyShape flexible) 1) s count p (inTables items₀ 0 tags₀ 0) left place (inTables items row tags tag) × ((length items ≡ length items₀) × (length tags ≡ length tags₀))
+Inv-loop s p flexible count items₀ tags₀ next₀ row₀ tag₀ left₀ items tags next row tag left = Going (λ e. walk (e .0) (keyShape flexible) 1) s count p (inTables items₀ 0 tags₀ 0) left next (inTables items row tags tag) × ((length items ≡ length items₀) × (length tags ≡ length tags₀))
 
 abbrev μ-loop : tie.MeasureT-loop
-μ-loop s p flexible count items₀ tags₀ left₀ place₀ row₀ tag₀ items tags left place row tag = left
+μ-loop s p flexible count items₀ tags₀ next₀ row₀ tag₀ left₀ items tags next row tag left = left
 
 loop-holds : tie.Need-loop-holds Inv-loop μ-loop
 loop-holds c = (going-start _ _ _ _ _, (refl, refl))
 
+sub-left : tie.Need-sub-left Inv-loop μ-loop
+sub-left c = search needs
+
 item-at-requires : tie.Need-item-at-requires Inv-loop μ-loop
 item-at-requires c κs = tt
 
-enum-known-next : tie.Need-enum-known-next Inv-loop μ-loop
-enum-known-next c = search needs
-
-sub-left : tie.Need-sub-left Inv-loop μ-loop
-sub-left c = search needs
+enum-known-q : tie.Need-enum-known-q Inv-loop μ-loop
+enum-known-q c = search needs
 
 loop-less : tie.Need-loop-less Inv-loop μ-loop
 loop-less c = search needs
 
 loop-again : tie.Need-loop-again Inv-loop μ-loop
-loop-again c = (turn-next _ _ _ _ _ _ _ _ (c .before .before .before .before .before .before .before .before .before .before .before .loop .inv .0) (c .before .before .before .before .before .before .before .before .before .before .loop-test .taken) (rowsIs _ _) _ _ (c .before .before .before .before .before .before .before .item-at .ensures) (c .before .next .given .1) _ (λ e. refl), (search needs, search needs))
+loop-again c = (turn-next _ _ _ _ _ _ _ _ (c .before .before .before .before .before .before .before .before .before .before .before .loop .inv .0) (c .before .before .before .before .before .before .before .before .before .before .loop-test .taken) (rowsIs _ _) _ _ (c .before .before .before .before .before .before .before .item-at .ensures) (c .before .q .given .1) _ (λ e. refl), (search needs, search needs))
 
 enum-known-e : tie.Need-enum-known-e Inv-loop μ-loop
 enum-known-e c = search needs
@@ -61,9 +61,9 @@ items-in-spec =
     Inv-loop
     μ-loop
     loop-holds
-    item-at-requires
-    enum-known-next
     sub-left
+    item-at-requires
+    enum-known-q
     loop-less
     loop-again
     enum-known-e

@@ -10,28 +10,28 @@ use Rattle.brokers.proofs.brokers_in.Statement.{statement}
 use Rattle.brokers.proofs.brokers_in.Tie as tie
 
 abbrev Inv-loop : tie.InvT-loop
-Inv-loop s p racked count table₀ left₀ place₀ behind₀ table left place behind = Going (λ e. walk false (brokerShape racked) 1) s count p (atBrokers table₀ 0) left place (atBrokers table behind) × (length table ≡ length table₀)
+Inv-loop s p racked count table₀ next₀ mark₀ left₀ table next mark left = Going (λ e. walk false (brokerShape racked) 1) s count p (atBrokers table₀ 0) left next (atBrokers table mark) × (length table ≡ length table₀)
 
 abbrev μ-loop : tie.MeasureT-loop
-μ-loop s p racked count table₀ left₀ place₀ behind₀ table left place behind = left
+μ-loop s p racked count table₀ next₀ mark₀ left₀ table next mark left = left
 
 loop-holds : tie.Need-loop-holds Inv-loop μ-loop
 loop-holds c = (going-start _ _ _ _ _, refl)
 
+sub-left : tie.Need-sub-left Inv-loop μ-loop
+sub-left c = search needs
+
 broker-at-requires : tie.Need-broker-at-requires Inv-loop μ-loop
 broker-at-requires c κs = tt
 
-enum-known-next : tie.Need-enum-known-next Inv-loop μ-loop
-enum-known-next c = search needs
-
-sub-left : tie.Need-sub-left Inv-loop μ-loop
-sub-left c = search needs
+enum-known-q : tie.Need-enum-known-q Inv-loop μ-loop
+enum-known-q c = search needs
 
 loop-less : tie.Need-loop-less Inv-loop μ-loop
 loop-less c = search needs
 
 loop-again : tie.Need-loop-again Inv-loop μ-loop
-loop-again c = (turn-next _ _ _ _ _ _ _ _ (c .before .before .before .before .before .before .before .before .loop .inv .0) (c .before .before .before .before .before .before .before .loop-test .taken) (filledIs _) _ _ (c .before .before .before .before .before .broker-at .ensures) (c .before .next .given .1) _ (λ e. refl), search needs)
+loop-again c = (turn-next _ _ _ _ _ _ _ _ (c .before .before .before .before .before .before .before .before .loop .inv .0) (c .before .before .before .before .before .before .before .loop-test .taken) (filledIs _) _ _ (c .before .before .before .before .before .broker-at .ensures) (c .before .q .given .1) _ (λ e. refl), search needs)
 
 enum-known-e : tie.Need-enum-known-e Inv-loop μ-loop
 enum-known-e c = search needs
@@ -55,9 +55,9 @@ brokers-in-spec =
     Inv-loop
     μ-loop
     loop-holds
-    broker-at-requires
-    enum-known-next
     sub-left
+    broker-at-requires
+    enum-known-q
     loop-less
     loop-again
     enum-known-e

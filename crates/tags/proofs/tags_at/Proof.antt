@@ -9,28 +9,28 @@ use Rattle.tags.proofs.tags_at.Statement.{statement}
 use Rattle.tags.proofs.tags_at.Tie as tie
 
 abbrev Inv-loop : tie.InvT-loop
-Inv-loop s p count table₀ mark left₀ next-place₀ next-mark₀ table left next-place next-mark = Going (λ e. walk (e .0) tagShape (e .1 .o)) s count p (inTable table₀ mark) left next-place (inTable table next-mark) × (length table ≡ length table₀)
+Inv-loop s p count table₀ mark next₀ mark₀ left₀ table next mark' left = Going (λ e. walk (e .0) tagShape (e .1 .o)) s count p (inTable table₀ mark) left next (inTable table mark') × (length table ≡ length table₀)
 
 abbrev μ-loop : tie.MeasureT-loop
-μ-loop s p count table₀ mark left₀ next-place₀ next-mark₀ table left next-place next-mark = left
+μ-loop s p count table₀ mark next₀ mark₀ left₀ table next mark' left = left
 
 loop-holds : tie.Need-loop-holds Inv-loop μ-loop
 loop-holds c = (going-start _ _ _ _ _, refl)
 
+sub-left : tie.Need-sub-left Inv-loop μ-loop
+sub-left c = search needs
+
 tag-in-requires : tie.Need-tag-in-requires Inv-loop μ-loop
 tag-in-requires c κs = tt
 
-enum-known-next : tie.Need-enum-known-next Inv-loop μ-loop
-enum-known-next c = search needs
-
-sub-left : tie.Need-sub-left Inv-loop μ-loop
-sub-left c = search needs
+enum-known-q : tie.Need-enum-known-q Inv-loop μ-loop
+enum-known-q c = search needs
 
 loop-less : tie.Need-loop-less Inv-loop μ-loop
 loop-less c = search needs
 
 loop-again : tie.Need-loop-again Inv-loop μ-loop
-loop-again c = (turn-next _ _ _ _ _ _ _ _ (c .before .before .before .before .before .before .before .before .loop .inv .0) (c .before .before .before .before .before .before .before .loop-test .taken) (inTableIs _) _ _ (c .before .before .before .before .before .tag-in .ensures) (c .before .next .given .1) _ (λ e. refl), search needs)
+loop-again c = (turn-next _ _ _ _ _ _ _ _ (c .before .before .before .before .before .before .before .before .loop .inv .0) (c .before .before .before .before .before .before .before .loop-test .taken) (inTableIs _) _ _ (c .before .before .before .before .before .tag-in .ensures) (c .before .q .given .1) _ (λ e. refl), search needs)
 
 enum-known-e : tie.Need-enum-known-e Inv-loop μ-loop
 enum-known-e c = search needs
@@ -54,9 +54,9 @@ tags-at-spec =
     Inv-loop
     μ-loop
     loop-holds
-    tag-in-requires
-    enum-known-next
     sub-left
+    tag-in-requires
+    enum-known-q
     loop-less
     loop-again
     enum-known-e

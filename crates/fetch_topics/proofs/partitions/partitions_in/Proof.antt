@@ -11,28 +11,28 @@ use Rattle.fetch_topics.proofs.partitions.partitions_in.Statement.{stat
 use Rattle.fetch_topics.proofs.partitions.partitions_in.Tie as tie
 
 abbrev Inv-loop : tie.InvT-loop
-Inv-loop s p stable count partitions₀ aborted₀ left₀ place₀ behind₀ partitions aborted left place behind = Going (λ e. walk false (partitionShape stable) 2) s count p (inPartitions partitions₀ aborted₀ behind₀) left place (inPartitions partitions aborted behind) × ((length partitions ≡ length partitions₀) × (length aborted ≡ length aborted₀))
+Inv-loop s p stable count partitions₀ aborted₀ next₀ marks₀ left₀ partitions aborted next marks left = Going (λ e. walk false (partitionShape stable) 2) s count p (inPartitions partitions₀ aborted₀ marks₀) left next (inPartitions partitions aborted marks) × ((length partitions ≡ length partitions₀) × (length aborted ≡ length aborted₀))
 
 abbrev μ-loop : tie.MeasureT-loop
-μ-loop s p stable count partitions₀ aborted₀ left₀ place₀ behind₀ partitions aborted left place behind = left
+μ-loop s p stable count partitions₀ aborted₀ next₀ marks₀ left₀ partitions aborted next marks left = left
 
 loop-holds : tie.Need-loop-holds Inv-loop μ-loop
 loop-holds c = (going-start _ _ _ _ _, (refl, refl))
 
+sub-left : tie.Need-sub-left Inv-loop μ-loop
+sub-left c = search needs
+
 partition-at-requires : tie.Need-partition-at-requires Inv-loop μ-loop
 partition-at-requires c κs = tt
 
-enum-known-next : tie.Need-enum-known-next Inv-loop μ-loop
-enum-known-next c = search needs
-
-sub-left : tie.Need-sub-left Inv-loop μ-loop
-sub-left c = search needs
+enum-known-q : tie.Need-enum-known-q Inv-loop μ-loop
+enum-known-q c = search needs
 
 loop-less : tie.Need-loop-less Inv-loop μ-loop
 loop-less c = search needs
 
 loop-again : tie.Need-loop-again Inv-loop μ-loop
-loop-again c = (turn-next _ _ _ _ _ _ _ _ (c .before .before .before .before .before .before .before .before .before .before .before .loop .inv .0) (c .before .before .before .before .before .before .before .before .before .before .loop-test .taken) (partitionsIs _ _) _ _ (c .before .before .before .before .before .before .before .partition-at .ensures) (c .before .next .given .1) _ (λ e. refl), (search needs, search needs))
+loop-again c = (turn-next _ _ _ _ _ _ _ _ (c .before .before .before .before .before .before .before .before .before .before .before .loop .inv .0) (c .before .before .before .before .before .before .before .before .before .before .loop-test .taken) (partitionsIs _ _) _ _ (c .before .before .before .before .before .before .before .partition-at .ensures) (c .before .q .given .1) _ (λ e. refl), (search needs, search needs))
 
 enum-known-e : tie.Need-enum-known-e Inv-loop μ-loop
 enum-known-e c = search needs
@@ -62,9 +62,9 @@ partitions-in-spec =
     Inv-loop
     μ-loop
     loop-holds
-    partition-at-requires
-    enum-known-next
     sub-left
+    partition-at-requires
+    enum-known-q
     loop-less
     loop-again
     enum-known-e

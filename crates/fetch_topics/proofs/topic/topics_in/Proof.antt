@@ -11,28 +11,28 @@ use Rattle.fetch_topics.proofs.topic.topics_in.Statement.{statement}
 use Rattle.fetch_topics.proofs.topic.topics_in.Tie as tie
 
 abbrev Inv-loop : tie.InvT-loop
-Inv-loop s p stable count topics₀ partitions₀ aborted₀ left₀ place₀ behind₀ topics partitions aborted left place behind = Going (λ e. walk false (topicShape stable) 1) s count p (inTopics topics₀ partitions₀ aborted₀ noMarks) left place (inTopics topics partitions aborted behind) × ((length topics ≡ length topics₀) × ((length partitions ≡ length partitions₀) × (length aborted ≡ length aborted₀)))
+Inv-loop s p stable count topics₀ partitions₀ aborted₀ next₀ marks₀ left₀ topics partitions aborted next marks left = Going (λ e. walk false (topicShape stable) 1) s count p (inTopics topics₀ partitions₀ aborted₀ noMarks) left next (inTopics topics partitions aborted marks) × ((length topics ≡ length topics₀) × ((length partitions ≡ length partitions₀) × (length aborted ≡ length aborted₀)))
 
 abbrev μ-loop : tie.MeasureT-loop
-μ-loop s p stable count topics₀ partitions₀ aborted₀ left₀ place₀ behind₀ topics partitions aborted left place behind = left
+μ-loop s p stable count topics₀ partitions₀ aborted₀ next₀ marks₀ left₀ topics partitions aborted next marks left = left
 
 loop-holds : tie.Need-loop-holds Inv-loop μ-loop
 loop-holds c = (going-start _ _ _ _ _, (refl, (refl, refl)))
 
+sub-left : tie.Need-sub-left Inv-loop μ-loop
+sub-left c = search needs
+
 topic-at-requires : tie.Need-topic-at-requires Inv-loop μ-loop
 topic-at-requires c κs = tt
 
-enum-known-next : tie.Need-enum-known-next Inv-loop μ-loop
-enum-known-next c = search needs
-
-sub-left : tie.Need-sub-left Inv-loop μ-loop
-sub-left c = search needs
+enum-known-q : tie.Need-enum-known-q Inv-loop μ-loop
+enum-known-q c = search needs
 
 loop-less : tie.Need-loop-less Inv-loop μ-loop
 loop-less c = search needs
 
 loop-again : tie.Need-loop-again Inv-loop μ-loop
-loop-again c = (turn-next _ _ _ _ _ _ _ _ (c .before .before .before .before .before .before .before .before .before .before .before .before .before .before .loop .inv .0) (c .before .before .before .before .before .before .before .before .before .before .before .before .before .loop-test .taken) (topicsIs _ _ _) _ _ (c .before .before .before .before .before .before .before .before .before .topic-at .ensures) (c .before .next .given .1) _ (λ e. refl), (search needs, (search needs, search needs)))
+loop-again c = (turn-next _ _ _ _ _ _ _ _ (c .before .before .before .before .before .before .before .before .before .before .before .before .before .before .loop .inv .0) (c .before .before .before .before .before .before .before .before .before .before .before .before .before .loop-test .taken) (topicsIs _ _ _) _ _ (c .before .before .before .before .before .before .before .before .before .topic-at .ensures) (c .before .q .given .1) _ (λ e. refl), (search needs, (search needs, search needs)))
 
 enum-known-e : tie.Need-enum-known-e Inv-loop μ-loop
 enum-known-e c = search needs
@@ -68,9 +68,9 @@ topics-in-spec =
     Inv-loop
     μ-loop
     loop-holds
-    topic-at-requires
-    enum-known-next
     sub-left
+    topic-at-requires
+    enum-known-q
     loop-less
     loop-again
     enum-known-e

@@ -11,28 +11,28 @@ use Rattle.topics.proofs.partitions.partitions_in.Statement.{statement}
 use Rattle.topics.proofs.partitions.partitions_in.Tie as tie
 
 abbrev Inv-loop : tie.InvT-loop
-Inv-loop s p count partitions₀ replicas₀ synced₀ left₀ place₀ behind₀ partitions replicas synced left place behind = Going (λ e. walk false partitionShape 3) s count p (inPartitions partitions₀ replicas₀ synced₀ behind₀) left place (inPartitions partitions replicas synced behind) × ((length partitions ≡ length partitions₀) × ((length replicas ≡ length replicas₀) × (length synced ≡ length synced₀)))
+Inv-loop s p count partitions₀ replicas₀ synced₀ next₀ marks₀ left₀ partitions replicas synced next marks left = Going (λ e. walk false partitionShape 3) s count p (inPartitions partitions₀ replicas₀ synced₀ marks₀) left next (inPartitions partitions replicas synced marks) × ((length partitions ≡ length partitions₀) × ((length replicas ≡ length replicas₀) × (length synced ≡ length synced₀)))
 
 abbrev μ-loop : tie.MeasureT-loop
-μ-loop s p count partitions₀ replicas₀ synced₀ left₀ place₀ behind₀ partitions replicas synced left place behind = left
+μ-loop s p count partitions₀ replicas₀ synced₀ next₀ marks₀ left₀ partitions replicas synced next marks left = left
 
 loop-holds : tie.Need-loop-holds Inv-loop μ-loop
 loop-holds c = (going-start _ _ _ _ _, (refl, (refl, refl)))
 
+sub-left : tie.Need-sub-left Inv-loop μ-loop
+sub-left c = search needs
+
 partition-at-requires : tie.Need-partition-at-requires Inv-loop μ-loop
 partition-at-requires c κs = tt
 
-enum-known-next : tie.Need-enum-known-next Inv-loop μ-loop
-enum-known-next c = search needs
-
-sub-left : tie.Need-sub-left Inv-loop μ-loop
-sub-left c = search needs
+enum-known-q : tie.Need-enum-known-q Inv-loop μ-loop
+enum-known-q c = search needs
 
 loop-less : tie.Need-loop-less Inv-loop μ-loop
 loop-less c = search needs
 
 loop-again : tie.Need-loop-again Inv-loop μ-loop
-loop-again c = (turn-next _ _ _ _ _ _ _ _ (c .before .before .before .before .before .before .before .before .before .before .before .before .before .before .loop .inv .0) (c .before .before .before .before .before .before .before .before .before .before .before .before .before .loop-test .taken) (partitionsIs _ _ _) _ _ (c .before .before .before .before .before .before .before .before .before .partition-at .ensures) (c .before .next .given .1) _ (λ e. refl), (search needs, (search needs, search needs)))
+loop-again c = (turn-next _ _ _ _ _ _ _ _ (c .before .before .before .before .before .before .before .before .before .before .before .before .before .before .loop .inv .0) (c .before .before .before .before .before .before .before .before .before .before .before .before .before .loop-test .taken) (partitionsIs _ _ _) _ _ (c .before .before .before .before .before .before .before .before .before .partition-at .ensures) (c .before .q .given .1) _ (λ e. refl), (search needs, (search needs, search needs)))
 
 enum-known-e : tie.Need-enum-known-e Inv-loop μ-loop
 enum-known-e c = search needs
@@ -68,9 +68,9 @@ partitions-in-spec =
     Inv-loop
     μ-loop
     loop-holds
-    partition-at-requires
-    enum-known-next
     sub-left
+    partition-at-requires
+    enum-known-q
     loop-less
     loop-again
     enum-known-e
