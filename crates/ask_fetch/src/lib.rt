@@ -47,14 +47,15 @@ fn all_shown(s: Sink, r: Rooms, topics: &[u64], partitions: &[u64], aborted: &[u
 
 fn lent_three(
     version: i16,
+    given: &[u64],
     msg: &[u8],
-    r: Rooms,
     topics: &mut [u64],
     partitions: &mut [u64],
     aborted: &mut [u64],
 ) -> Sink
     ensures { λ r. ⌜ r .n ≤ 256 ⌝ }
 {
+    let r = rooms_of(given);
     let reply = fetch::read(
         msg,
         version,
@@ -66,22 +67,22 @@ fn lent_three(
     all_shown(s, r, topics, partitions, aborted)
 }
 
-fn small(version: i16, msg: &[u8], r: Rooms) -> Sink
+fn small(version: i16, given: &[u64], msg: &[u8]) -> Sink
     ensures { λ r. ⌜ r .n ≤ 256 ⌝ }
 {
     let mut a = [CELL; 272];
     let mut b = [CELL; 272];
     let mut c = [CELL; 272];
-    lent_three(version, msg, r, &mut a, &mut b, &mut c)
+    lent_three(version, given, msg, &mut a, &mut b, &mut c)
 }
 
-fn large(version: i16, msg: &[u8], r: Rooms) -> Sink
+fn large(version: i16, given: &[u64], msg: &[u8]) -> Sink
     ensures { λ r. ⌜ r .n ≤ 256 ⌝ }
 {
     let mut a = [CELL; 65552];
     let mut b = [CELL; 65552];
     let mut c = [CELL; 65552];
-    lent_three(version, msg, r, &mut a, &mut b, &mut c)
+    lent_three(version, given, msg, &mut a, &mut b, &mut c)
 }
 
 // Are all rooms of what most cases need?
@@ -99,9 +100,8 @@ fn few(given: &[u64]) -> bool {
 pub fn read(version: i16, given: &[u64], msg: &[u8]) -> Sink
     ensures { λ r. ⌜ r .n ≤ 256 ⌝ }
 {
-    let r = rooms_of(given);
     if few(given) {
-        return small(version, msg, r);
+        return small(version, given, msg);
     }
-    large(version, msg, r)
+    large(version, given, msg)
 }

@@ -82,8 +82,8 @@ fn all_shown(
 
 fn lent_five(
     version: i16,
+    given: &[u64],
     msg: &[u8],
-    r: Rooms,
     brokers: &mut [u64],
     topics: &mut [u64],
     partitions: &mut [u64],
@@ -92,6 +92,7 @@ fn lent_five(
 ) -> Sink
     ensures { λ r. ⌜ r .n ≤ 256 ⌝ }
 {
+    let r = rooms_of(given);
     let reply = metadata::read(
         msg,
         version,
@@ -105,7 +106,7 @@ fn lent_five(
     all_shown(s, r, brokers, topics, partitions, replicas, synced)
 }
 
-fn small(version: i16, msg: &[u8], r: Rooms) -> Sink
+fn small(version: i16, given: &[u64], msg: &[u8]) -> Sink
     ensures { λ r. ⌜ r .n ≤ 256 ⌝ }
 {
     let mut a = [CELL; 272];
@@ -113,10 +114,10 @@ fn small(version: i16, msg: &[u8], r: Rooms) -> Sink
     let mut c = [CELL; 272];
     let mut d = [CELL; 272];
     let mut e = [CELL; 272];
-    lent_five(version, msg, r, &mut a, &mut b, &mut c, &mut d, &mut e)
+    lent_five(version, given, msg, &mut a, &mut b, &mut c, &mut d, &mut e)
 }
 
-fn large(version: i16, msg: &[u8], r: Rooms) -> Sink
+fn large(version: i16, given: &[u64], msg: &[u8]) -> Sink
     ensures { λ r. ⌜ r .n ≤ 256 ⌝ }
 {
     let mut a = [CELL; 65552];
@@ -124,7 +125,7 @@ fn large(version: i16, msg: &[u8], r: Rooms) -> Sink
     let mut c = [CELL; 65552];
     let mut d = [CELL; 65552];
     let mut e = [CELL; 65552];
-    lent_five(version, msg, r, &mut a, &mut b, &mut c, &mut d, &mut e)
+    lent_five(version, given, msg, &mut a, &mut b, &mut c, &mut d, &mut e)
 }
 
 // Are all rooms of what most cases need?
@@ -143,11 +144,10 @@ fn few(given: &[u64]) -> bool {
 pub fn read(version: i16, given: &[u64], msg: &[u8]) -> Sink
     ensures { λ r. ⌜ r .n ≤ 256 ⌝ }
 {
-    let r = rooms_of(given);
     if few(given) {
-        return small(version, msg, r);
+        return small(version, given, msg);
     }
-    large(version, msg, r)
+    large(version, given, msg)
 }
 
 // ---- the host of a broker
