@@ -2,9 +2,10 @@
 use mathlib.Core.Bool.{Bool, false, true}
 use mathlib.Core.List.{List, [], _∷_}
 use mathlib.Core.Path.{_∙_, _≡_, ap, refl, sym}
-use Prim.Native.Nat.{_+_, _<_, _≤_, ℕ}
+use Prim.Native.Nat.{_+_, _-_, _<_, _≤_, suc, zero, ℕ}
 use native.Mathlib.Omega.{arith}
-use lib.ListN.{drop, getD, length, take}
+use lib.ListN.{drop, getD, length, length-drop, take}
+use lib.Seq.{drop-drop, length-take-le, take-take}
 use Rattle.layout.specs.Reading.{Res, ok}
 use Rattle.layout.specs.Primitives.{be, cellOf, signed, w16}
 use Rattle.layout.specs.Read.{byPlace, read}
@@ -38,18 +39,38 @@ module _ (s : List ℕ) (p : ℕ) (h : p + 6 ≤ length s) where
   pub bare-out : (l : List ℕ) (k n : ℕ) → n ≡ step (step (step (step k))) → length l ≤ k → Bare s p l k l n
   bare-out l k n e i = record { key = num p; min = num (p + 2); max = num (p + 2 + 2); reads = there; stored = four-out l k _ _ _ 0 n e i }
 
-  module _ (r : Key) (d : ofKey r ≡ on (read (byPlace false) keyFront) s p) where
+-- a part of a part
+inside : (k q n : ℕ) (l : List ℕ) → q + k ≤ n → take k (drop q (take n l)) ≡ take k (drop q l)
+inside k zero n l h = take-take k n l (omega arith)
+inside k (suc q) zero l h = absurd (omega arith)
+inside k (suc q) (suc n) [] h = refl
+inside k (suc q) (suc n) (x ∷ l) h = inside k q n l (omega arith)
+
+-- read on just its bytes
+module _ (s : List ℕ) (p : ℕ) (h : p + 6 ≤ length s) where
+  abbrev part : List ℕ
+  part = take (p + 6 - p) (drop p s)
+
+  same : (q t : ℕ) → p + q ≡ t → q + 2 ≤ 6 → be 0 (take 2 (drop q part)) ≡ be 0 (take 2 (drop t s))
+  same q t e l =
+      let n : p + 6 - p ≡ 6 = omega arith in
+      ap (λ (k : ℕ). be 0 (take 2 (drop q (take k (drop p s))))) n ∙ ap (be 0) (inside 2 q 6 (drop p s) l ∙ ap (take 2) (drop-drop q p s ∙ ap (λ (k : ℕ). drop k s) e))
+
+  -- the numbers are those at place p
+  on-part : on (read (byPlace false) keyFront) part 0 ≡ ok (num s p h p, (num s p h (p + 2), (num s p h (p + 2 + 2), tt))) 6
+  on-part =
+      let l : length part ≡ p + 6 - p = length-take-le (p + 6 - p) (drop p s) (omega (arith, length-drop p s)) in
+      sym (there part 0 (omega arith)) ∙ (λ i. ok (cellOf (signed w16 (same 0 p (omega arith) (omega arith) i)), (cellOf (signed w16 (same 2 (p + 2) (omega arith) (omega arith) i)), (cellOf (signed w16 (same 4 (p + 2 + 2) (omega arith) (omega arith) i)), tt))) 6)
+
+  module _ (r : Key) (d : ofKey r ≡ on (read (byPlace false) keyFront) part 0) where
     pub bare-stored : (a b c n : ℕ) → r ≡ Key.Took a b c n → (l : List ℕ) (k : ℕ) (l′ : List ℕ) (m : ℕ) → tab l′ m ≡ store (tab l k) (a ∷ b ∷ c ∷ 0 ∷ []) → Bare s p l k l′ m
-    bare-stored a b c n e l k l′ m i =
-        let g : ok (a, (b, (c, tt))) n ≡ on (read (byPlace false) keyFront) s p = ap ofKey (sym e) ∙ d in
-        let j : n ≡ p + 6 = used (g ∙ sym there) in
-        record { key = a; min = b; max = c; reads = ap (ok (a, (b, (c, tt)))) (sym j) ∙ g; stored = i }
+    bare-stored a b c n e l k l′ m i = record { key = a; min = b; max = c; reads = ap (λ (v : Value Span keyFront). ok v (p + 6)) (value (ap ofKey (sym e) ∙ d ∙ on-part)) ∙ there s p h; stored = i }
       where
-        used : {x y : Value Span keyFront} {u v : ℕ} → ok x u ≡ ok y v → u ≡ v
-        used q = cc
+        value : {x y : Value Span keyFront} {u v : ℕ} → ok x u ≡ ok y v → x ≡ y
+        value q = cc
 
     pub bare-never : {X : Type 0} (e : Code.Refusal) → r ≡ Key.Refused e → X
-    bare-never e i = not-ok (ap ofKey (sym i) ∙ d ∙ sym there)
+    bare-never e i = not-ok (ap ofKey (sym i) ∙ d ∙ on-part)
 
 pub bare-item : (f : Bool) (s : List ℕ) (p : ℕ) (is : List ℕ) (i : ℕ) (ts : List ℕ) (t : ℕ) → f ≡ true → p + 6 < length s → getD s (p + 6) 0 ≡ 0 → (is′ : List ℕ) (m : ℕ) → Bare s p is i is′ m →
     Runs (λ e. walk (e .0) (keyShape f) 1) s p (inTables is i ts t) (rowsIs is′ ts (Rows.Took (p + 7) m t))

@@ -93,7 +93,7 @@ fn bare_in(s: &[u8], p: usize, items: &mut [u64], row: usize) -> usize
     if items.len() <= row {
         return skip4(row);
     }
-    match key_at(s, p) {
+    match key_at(&s[p..p + 6], 0) {
         Key::Took {
             key,
             min,
