@@ -1,20 +1,23 @@
 -- A primitive of k bytes: on just these it answers as on all that is left, and with fewer the bytes end. And what is read where the bytes are there.
 use mathlib.Core.Bool.{Bool, false, true}
-use mathlib.Core.List.{List}
+use mathlib.Core.List.{List, []}
 use mathlib.Core.Path.{_∙_, _≡_, ap, refl, sym}
 use Prim.Native.Nat.{_*_, _+_, _-_, _<_, _≤_, ℕ}
 use native.Mathlib.Nat.{add-zero, le-refl}
 use native.Mathlib.Omega.{arith}
+use lib.Dec.{ltb}
 use lib.ListN.{drop, getD, length, length-drop, take}
 use lib.Seq.{getD-drop, length-take-le, take-take}
-use Rattle.layout.specs.Reading.{Reader, Refusal, Res, bad, because, fail, give, more, next, ok, pick, placed, primitive, then}
+use Rattle.layout.specs.Reading.{Reader, Res, bad, because, fail, give, more, next, ok, pick, placed, primitive, then}
 use Rattle.layout.specs.Primitives.{Null, Width, be, cell, cellOf, checked, fixed, int, lengthOf, signed, size, unsigned}
 use Rattle.layout.proofs.Steps.{int-bad, int-ok, then-ok}
+use Rattle.layout.proofs.Tests.{lt-false, lt-true, of-ge, of-lt}
 use Rattle.primitives.proofs.Varint.{ended, start}
 use Rattle.fields.specs.Answers.{counted}
 use Rattle.rows.specs.Walk.{on}
 use Rattle.rows.proofs.Moves.{still}
-use Rattle.places.proofs.OnRest.{Portable, no-at, portable-unsigned, took-at}
+use Rattle.places.specs.Moved.{frontAt}
+use Rattle.places.proofs.OnRest.{portable-unsigned, took-at}
 
 pub record Front {A : Type 0} (k : ℕ) (r : Reader A) : Type 0 where
   pub part : (p : ℕ) (s : List ℕ) → k ≤ length s → r p (take k s) ≡ r p s
@@ -70,15 +73,33 @@ front-counted w m =
     (front-then (size w) _ _ (front-then (size w) (int (size w)) _ (front-int (size w)) (λ n. blind-pick _ _ _ (blind-give _) (blind-pick _ _ _ (blind-give _) (blind-fail _))))
     (λ n. blind-pick _ _ _ (blind-pick true _ _ (blind-give _) (blind-fail _)) (blind-give _)))
 
-module _ {A : Type 0} (k : ℕ) (r : Reader A) (f : Front k r) (s : List ℕ) (p : ℕ) where
-  -- what was read on the part from p to p + k was read on all that is left
-  pub on-part : p + k ≤ length s → (o : Res A) → o ≡ r 0 (take (p + k - p) (drop p s)) → o ≡ r 0 (drop p s)
-  on-part h o d =
-      let e : p + k - p ≡ k = omega arith in
-      d ∙ ap (λ (n : ℕ). r 0 (take n (drop p s))) e ∙ f .part 0 (drop p s) (omega (arith, length-drop p s))
+-- just these bytes of a message, as code cuts them out, or none
+module _ (s : List ℕ) (p m : ℕ) where
+  cut : p + m + 1 - p ≡ m + 1
+  cut = omega arith
 
-  pub ended-at : (g : ℕ → A → A) → Portable r g → length s - p < k → (c : Refusal) → c ≡ because 3 p → bad c ≡ on r s p
-  ended-at g h l c d = no-at r g h s (drop p s) p refl (because 3 0) c (sym (f .short 0 (drop p s) (omega (arith, length-drop p s)))) d
+  pub front-there : p < length s - m → take (p + m + 1 - p) (drop p s) ≡ frontAt p m s
+  unfolding frontAt
+  front-there h = rw (lt-true p (length s - m) h) (ap (λ (k : ℕ). take k (drop p s)) cut)
+
+  pub front-none : length s - m ≤ p → [] ≡ frontAt p m s
+  unfolding frontAt
+  front-none h = rw (lt-false p (length s - m) h)
+
+  -- read on these, or on none, it answers as on all that is left
+  module _ {A : Type 0} (r : Reader A) (f : Front (m + 1) r) where
+    on-all : p < length s - m → r 0 (frontAt p m s) ≡ r 0 (drop p s)
+    on-all h = ap (r 0) (sym (front-there h) ∙ ap (λ (k : ℕ). take k (drop p s)) cut) ∙ f .part 0 (drop p s) (omega (arith, length-drop p s))
+
+    on-none : length s - m ≤ p → r 0 (frontAt p m s) ≡ r 0 (drop p s)
+    on-none h = ap (r 0) (sym (front-none h)) ∙ f .short 0 [] (omega arith) ∙ sym (f .short 0 (drop p s) (omega (arith, length-drop p s)))
+
+    pub on-front : (left : List ℕ) → left ≡ frontAt p m s → (o : Res A) → o ≡ r 0 left → o ≡ r 0 (drop p s)
+    on-front left i o d = d ∙ ap (r 0) i ∙ go (ltb p (length s - m)) refl
+      where
+        go : (b : Bool) → ltb p (length s - m) ≡ b → r 0 (frontAt p m s) ≡ r 0 (drop p s)
+        go true e = on-all (of-lt _ _ e)
+        go false e = on-none (of-ge _ _ e)
 
 -- a number whose bytes are there is read
 pub cell-at : (w : Width) (s : List ℕ) (p : ℕ) → p + size w ≤ length s → ok (cellOf (signed w (be 0 (take (size w) (drop p s))))) (p + size w) ≡ on (cell w) s p

@@ -1,6 +1,9 @@
 -- What a primitive's answer on the rest of a message says of the message: it used the bytes before the rest too, and it refuses at the place where the rest starts.
 use mathlib.Core.Bool.{Bool, cond}
-use Prim.Native.Nat.{_+_, _<_, _^_, suc, zero, ℕ}
+use mathlib.Core.List.{List, []}
+use Prim.Native.Nat.{_+_, _-_, _<_, _^_, suc, zero, ℕ}
+use lib.Dec.{ltb}
+use lib.ListN.{drop, length, take}
 use mathlib.Core.Option.{Option, none, some}
 use mathlib.Core.Path.{_≡_}
 use Rattle.layout.specs.Reading.{Reader, Res, bad, because, ok}
@@ -51,3 +54,7 @@ arrayCount f = counted (nullableItems f)
 -- the number of its items, where null is none or, in a whole read, refused
 unfoldable pub arrayItems : Bool → Bool → Reader ℕ
 arrayItems f w = itemCount w (items f)
+
+-- the byte at place p and m more behind it; none where they are not all there
+unfoldable pub frontAt : ℕ → ℕ → List ℕ → List ℕ
+frontAt p m s = cond (ltb p (length s - m)) (take (m + 1) (drop p s)) []

@@ -7,7 +7,7 @@ ghost use Rattle.layout.specs.Rows.{blob, text};
 ghost use Rattle.primitives.specs.Answers.{ofFlag, ofNumber};
 ghost use Rattle.fields.specs.Answers.{counted, ofCount, ofField, ofNullable, ofPart, there};
 ghost use Rattle.rows.specs.Walk.{on};
-ghost use Rattle.places.specs.Moved.{FieldFits, Fits, PartFits, StartFits, arrayCount, arrayItems, fromPlace, further, furtherField, itemsOf};
+ghost use Rattle.places.specs.Moved.{FieldFits, Fits, PartFits, StartFits, arrayCount, arrayItems, frontAt, fromPlace, further, furtherField, itemsOf};
 use fields::Count;
 use fields::Field;
 use fields::Nullable;
@@ -15,7 +15,6 @@ use fields::Part;
 use fields::counts;
 use fields::parts;
 use fields::texts;
-use primitives::BYTES_END;
 use primitives::Flag;
 use primitives::NULL_ITEMS;
 use primitives::Number;
@@ -36,23 +35,26 @@ fn moved(n: Number, p: usize) -> Number
     }
 }
 
-// The commonest numbers are read on just their bytes: one comparison tells that they are there.
+// The byte at p and `more` behind it, or none where they are not all there. The commonest primitives are read on just their bytes, so that one comparison is enough.
+fn front(s: &[u8], p: usize, more: usize) -> &[u8]
+    ensures { λ r. ⌜ now r ≡ frontAt p more (now (s .entry)) ⌝ }
+{
+    if p < less(s.len(), more) {
+        return &s[p..p + more + 1];
+    }
+    &s[..0]
+}
+
 pub fn int16_at(s: &[u8], p: usize) -> Number
     ensures { λ r. ⌜ ofNumber r ≡ on (cell w16) (now (s .entry)) p ⌝ }
 {
-    if p < less(s.len(), 1) {
-        return moved(numbers::int16(&s[p..p + 2]), p);
-    }
-    Number::Refused(at(BYTES_END, p))
+    moved(numbers::int16(front(s, p, 1)), p)
 }
 
 pub fn int32_at(s: &[u8], p: usize) -> Number
     ensures { λ r. ⌜ ofNumber r ≡ on (cell w32) (now (s .entry)) p ⌝ }
 {
-    if p < less(s.len(), 3) {
-        return moved(numbers::int32(&s[p..p + 4]), p);
-    }
-    Number::Refused(at(BYTES_END, p))
+    moved(numbers::int32(front(s, p, 3)), p)
 }
 
 pub fn int64_at(s: &[u8], p: usize) -> Number
@@ -193,10 +195,7 @@ pub fn boolean_at(s: &[u8], p: usize) -> Flag
 pub fn count_at(s: &[u8], p: usize) -> Count
     ensures { λ r. ⌜ ofCount r ≡ on (counted (fixed w32 kept)) (now (s .entry)) p ⌝ }
 {
-    if less(s.len(), 3) <= p {
-        return Count::Refused(at(BYTES_END, p));
-    }
-    match counts::length32(&s[p..p + 4]) {
+    match counts::length32(front(s, p, 3)) {
         Count::Null { used } => Count::Null { used: p + used },
         Count::Took { count, used } => Count::Took {
             count,
