@@ -4,6 +4,7 @@ use mathlib.Core.List.{List, [], _∷_}
 use mathlib.Core.Path.{_∙_, _≡_, ap, refl, sym}
 use Prim.Native.Nat.{_+_, _-_, _<_, _≤_, suc, zero, ℕ}
 use native.Mathlib.Omega.{arith}
+use lib.Dec.{eqb}
 use lib.ListN.{drop, getD, length, length-drop, take}
 use lib.Seq.{drop-drop, length-take-le, take-take}
 use Rattle.layout.specs.Reading.{Res, ok}
@@ -12,6 +13,7 @@ use Rattle.layout.specs.Read.{byPlace, read}
 use Rattle.layout.specs.Rows.{Value}
 use Rattle.layout.specs.Tables.{Span}
 use Rattle.layout.proofs.Local.{not-ok}
+use Rattle.layout.proofs.Tests.{of-eq}
 use Rattle.primitives.specs.declared.Refusal as Code
 use Rattle.rows.specs.Store.{step, store, tab}
 use Rattle.rows.specs.Walk.{Runs, on, walk}
@@ -20,7 +22,7 @@ use Rattle.places.proofs.Fronts.{cell-at}
 use Rattle.tags.specs.declared.Walked.{Walked}
 use Rattle.tags.proofs.Count.{buffer-empty}
 use Rattle.api_versions_items.specs.Shapes.{keyFront, keyShape}
-use Rattle.api_versions_items.specs.Walks.{Bare, inTables, ofKey, rowsIs}
+use Rattle.api_versions_items.specs.Walks.{Bare, IsBare, inTables, ofKey, rowsIs}
 use Rattle.api_versions_items.specs.declared.Key.{Key}
 use Rattle.api_versions_items.specs.declared.Rows.{Rows}
 use Rattle.api_versions_items.proofs.ItemRows.{item-took, key-took, tags-there}
@@ -72,9 +74,18 @@ module _ (s : List ℕ) (p : ℕ) (h : p + 6 ≤ length s) where
     pub bare-never : {X : Type 0} (e : Code.Refusal) → r ≡ Key.Refused e → X
     bare-never e i = not-ok (ap ofKey (sym i) ∙ d ∙ on-part)
 
-pub bare-item : (f : Bool) (s : List ℕ) (p : ℕ) (is : List ℕ) (i : ℕ) (ts : List ℕ) (t : ℕ) → f ≡ true → p + 6 < length s → getD s (p + 6) 0 ≡ 0 → (is′ : List ℕ) (m : ℕ) → Bare s p is i is′ m →
+pub is-bare : (f : Bool) (s : List ℕ) (p : ℕ) → f ≡ true → p + 6 < length s → IsBare f s p (eqb (getD s (p + 6) 0) 0)
+is-bare f s p e h = record { flexible = λ r. e; whole = λ r. h; empty = λ r. of-eq _ _ r }
+
+pub not-bare : (f : Bool) (s : List ℕ) (p : ℕ) → IsBare f s p false
+not-bare f s p = record { flexible = λ r. never r; whole = λ r. never r; empty = λ r. never r }
+  where
+    never : {X : Type 0} → false ≡ true → X
+    never r = let z : _≡_ {A = ℕ} 0 1 = cc in absurd (omega arith)
+
+pub bare-item : (f : Bool) (s : List ℕ) (p : ℕ) (is : List ℕ) (i : ℕ) (ts : List ℕ) (t : ℕ) (r : Bool) → IsBare f s p r → r ≡ true → (is′ : List ℕ) (m : ℕ) → Bare s p is i is′ m →
     Runs (λ e. walk (e .0) (keyShape f) 1) s p (inTables is i ts t) (rowsIs is′ ts (Rows.Took (p + 7) m t))
-bare-item f s p is i ts t e h z is′ m b =
+bare-item f s p is i ts t r d g is′ m b =
     let n : p + 6 + 1 ≡ p + 7 = omega arith in
     item-took f s p is i ts t (Key.Took (b .key) (b .min) (b .max) (p + 6)) (b .reads) _ _ _ _ refl ts (Walked.Took 0 (p + 6 + 1) t)
-    (tags-there f s (p + 6) ts t e ts (Walked.Took 0 (p + 6 + 1) t) (buffer-empty s (p + 6) ts t h (sym z))) 0 (p + 7) t (ap (λ (u : ℕ). Walked.Took 0 u t) n) is′ m (b .stored)
+    (tags-there f s (p + 6) ts t (d .flexible g) ts (Walked.Took 0 (p + 6 + 1) t) (buffer-empty s (p + 6) ts t (d .whole g) (sym (d .empty g)))) 0 (p + 7) t (ap (λ (u : ℕ). Walked.Took 0 u t) n) is′ m (b .stored)

@@ -1,8 +1,9 @@
 -- What the walks over items say in the definition's words. Table 0 is the body's own row, 1 the items, 2 the tags.
-use mathlib.Core.Bool.{Bool, false}
+use mathlib.Core.Bool.{Bool, false, true}
 use mathlib.Core.List.{List, [], _∷_}
 use mathlib.Core.Path.{_≡_}
-use Prim.Native.Nat.{_+_, ℕ}
+use Prim.Native.Nat.{_+_, _<_, ℕ}
+use lib.ListN.{getD, length}
 use Rattle.layout.specs.Reading.{Res, bad, ok}
 use Rattle.layout.specs.Rows.{Value}
 use Rattle.layout.specs.Read.{byPlace, read}
@@ -33,3 +34,9 @@ pub record Bare (s : List ℕ) (p : ℕ) (l : List ℕ) (k : ℕ) (l′ : List �
   pub max : ℕ
   pub reads : ok (key, (min, (max, tt))) (p + 6) ≡ on (read (byPlace false) keyFront) s p
   pub stored : tab l′ k′ ≡ store (tab l k) (key ∷ min ∷ max ∷ 0 ∷ [])
+
+-- r tells no more than that at place p stands an item without tags, with all of its bytes, and that the version has tags
+pub record IsBare (f : Bool) (s : List ℕ) (p : ℕ) (r : Bool) : Type 0 where
+  pub flexible : r ≡ true → f ≡ true
+  pub whole : r ≡ true → p + 6 < length s
+  pub empty : r ≡ true → getD s (p + 6) 0 ≡ 0

@@ -8,7 +8,7 @@ ghost use Rattle.layout.specs.Read.{byPlace, read};
 ghost use Rattle.rows.specs.Walk.{Runs, on, walk};
 ghost use Rattle.tags.specs.Answers as Tags;
 ghost use Rattle.api_versions_items.specs.Shapes.{keyFront, keyShape, tagsIf};
-ghost use Rattle.api_versions_items.specs.Walks.{Bare, inTables, ofKey, rowsIs};
+ghost use Rattle.api_versions_items.specs.Walks.{Bare, IsBare, inTables, ofKey, rowsIs};
 use places::int16_at;
 use primitives::Number;
 use primitives::Refusal;
@@ -85,6 +85,18 @@ fn key_at(s: &[u8], p: usize) -> Key
     }
 }
 
+// Most items have no tags: their bytes are there, and the last is 0.
+fn is_bare(s: &[u8], p: usize, flexible: bool) -> bool
+    ensures { λ r. ⌜ IsBare flexible (now (s .entry)) p r ⌝ }
+{
+    if flexible {
+        if p < less(s.len(), 6) {
+            return s[p + 6] == 0;
+        }
+    }
+    false
+}
+
 // The row of an item without tags, from its numbers; where it has no room they are passed over.
 fn bare_in(s: &[u8], p: usize, items: &mut [u64], row: usize) -> usize
     requires { ⌜ p + 6 ≤ length (now s) ⌝ }
@@ -105,7 +117,7 @@ fn bare_in(s: &[u8], p: usize, items: &mut [u64], row: usize) -> usize
 }
 
 // One item into the tables, where there is room.
-fn any_item_at(
+fn item_at(
     s: &[u8],
     p: usize,
     flexible: bool,
@@ -116,6 +128,13 @@ fn any_item_at(
 ) -> Rows
     ensures { λ r. ⌜ Runs (λ e. walk (e .0) (keyShape flexible) 1) (now (s .entry)) p (inTables (now (items .entry)) row (now (tags .entry)) tag) (rowsIs (now (items .exit)) (now (tags .exit)) r) ⌝ }
 {
+    if is_bare(s, p, flexible) {
+        return Rows::Took {
+            next: p + 7,
+            items: bare_in(s, p, items, row),
+            tags: tag,
+        };
+    }
     match key_at(s, p) {
         Key::Took {
             key,
@@ -137,32 +156,6 @@ fn any_item_at(
         }
         Key::Refused(e) => Rows::Refused(e),
     }
-}
-
-// The same. Most items have no tags: their bytes are there, and the last is 0.
-fn item_at(
-    s: &[u8],
-    p: usize,
-    flexible: bool,
-    items: &mut [u64],
-    row: usize,
-    tags: &mut [u64],
-    tag: usize,
-) -> Rows
-    ensures { λ r. ⌜ Runs (λ e. walk (e .0) (keyShape flexible) 1) (now (s .entry)) p (inTables (now (items .entry)) row (now (tags .entry)) tag) (rowsIs (now (items .exit)) (now (tags .exit)) r) ⌝ }
-{
-    if flexible {
-        if p < less(s.len(), 6) {
-            if s[p + 6] == 0 {
-                return Rows::Took {
-                    next: p + 7,
-                    items: bare_in(s, p, items, row),
-                    tags: tag,
-                };
-            }
-        }
-    }
-    any_item_at(s, p, flexible, items, row, tags, tag)
 }
 
 // `count` items from place p on, from the start of the tables on.
