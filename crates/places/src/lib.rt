@@ -60,7 +60,7 @@ pub fn int32_at(s: &[u8], p: usize) -> Number
 pub fn int64_at(s: &[u8], p: usize) -> Number
     ensures { λ r. ⌜ ofNumber r ≡ on (cell w64) (now (s .entry)) p ⌝ }
 {
-    moved(numbers::int64(parts::rest(s, p)), p)
+    moved(numbers::int64(front(s, p, 7)), p)
 }
 
 // Most varints have one byte.

@@ -1,21 +1,23 @@
--- The step on the rest is a read at the place where the rest starts.
+-- On just its bytes it is read as on the rest, and the step on the rest is a read at the place where the rest starts.
+use mathlib.Core.Path.{refl}
 use Rattle.layout.specs.Primitives.{w64}
+use Rattle.places.proofs.Fronts.{front-cell, on-front}
 use Rattle.places.proofs.OnRest.{at-place, fits, portable-cell}
 use borrow.Author.Needs.{needs}
 use Rattle.places.proofs.int64_at.Statement.{statement}
 use Rattle.places.proofs.int64_at.Tie as tie
 
-rest-requires : tie.Need-rest-requires
-rest-requires c κs = search needs
+front-requires : tie.Need-front-requires
+front-requires c κs = search needs
 
 int64-requires : tie.Need-int64-requires
 int64-requires c κs = search needs
 
 moved-requires : tie.Need-moved-requires
-moved-requires c κs = fits _ _ (portable-cell w64) _ _ _ (c .before .rest .ensures) (search needs) (search needs) _ (c .int64 .ensures)
+moved-requires c κs = fits _ _ (portable-cell w64) (c .before .before .before .args .s .now) _ _ refl (search needs) (search needs) _ (on-front _ _ 7 _ (front-cell w64) _ (c .before .front .ensures) _ (c .int64 .ensures))
 
 returns : tie.Need-returns
-returns c = at-place _ _ (portable-cell w64) _ _ _ (c .before .before .rest .ensures) _ _ (c .before .int64 .ensures) (c .moved .ensures)
+returns c = at-place _ _ (portable-cell w64) _ _ _ refl _ _ (on-front _ _ 7 _ (front-cell w64) _ (c .before .before .front .ensures) _ (c .before .int64 .ensures)) (c .moved .ensures)
 
 pub int64-at-spec : {M : Type 1} → statement M
-int64-at-spec = tie.close (tie.spec rest-requires int64-requires moved-requires returns)
+int64-at-spec = tie.close (tie.spec front-requires int64-requires moved-requires returns)
