@@ -1,10 +1,10 @@
 -- Bytes copied in two parts of k bytes, the first and the last, which may overlap.
 use mathlib.Core.List.{List, [], _++_, _∷_, append-assoc, append-nil}
 use mathlib.Core.Path.{_∙_, _≡_, ap, ap₂, refl, sym}
-use Prim.Native.Nat.{_+_, _-_, _<_, _≤_, ℕ}
+use Prim.Native.Nat.{_+_, _-_, _<_, _≤_, suc, ℕ}
 use native.Mathlib.Omega.{arith}
 use borrow.Rule.Slice.PartMut.{midOf, putMid}
-use lib.ListN.{drop, drop-of-length-le, getD, length, length-append, length-drop, take, take-append-drop}
+use lib.ListN.{drop, drop-of-length-le, getD, length, length-append, length-drop, length-set, set, take, take-append-drop}
 use lib.Seq.{drop-append-seam, drop-drop, length-take-le, sets, sets-eq, take-all, take-append-seam, take-take}
 use Rattle.put.specs.Put.{Put}
 use Rattle.put.proofs.Stored.{put-all}
@@ -16,6 +16,26 @@ first-four (a ∷ []) d h l = absurd (omega arith)
 first-four (a ∷ b ∷ []) d h l = absurd (omega arith)
 first-four (a ∷ b ∷ e ∷ []) d h l = absurd (omega arith)
 first-four (a ∷ b ∷ e ∷ f ∷ x) d h l = sets-eq (a ∷ b ∷ e ∷ f ∷ []) d 0 (omega arith)
+
+-- the first eight
+pub first-eight : (x d : List ℕ) → 8 ≤ length x → 8 ≤ length d → sets d 0 (getD x 0 0 ∷ getD x 1 0 ∷ getD x 2 0 ∷ getD x 3 0 ∷ getD x 4 0 ∷ getD x 5 0 ∷ getD x 6 0 ∷ getD x 7 0 ∷ []) ≡ take 8 x ++ drop 8 d
+first-eight [] d h l = absurd (omega arith)
+first-eight (a ∷ []) d h l = absurd (omega arith)
+first-eight (a ∷ b ∷ []) d h l = absurd (omega arith)
+first-eight (a ∷ b ∷ e ∷ []) d h l = absurd (omega arith)
+first-eight (a ∷ b ∷ e ∷ f ∷ []) d h l = absurd (omega arith)
+first-eight (a ∷ b ∷ e ∷ f ∷ g ∷ []) d h l = absurd (omega arith)
+first-eight (a ∷ b ∷ e ∷ f ∷ g ∷ i ∷ []) d h l = absurd (omega arith)
+first-eight (a ∷ b ∷ e ∷ f ∷ g ∷ i ∷ j ∷ []) d h l = absurd (omega arith)
+first-eight (a ∷ b ∷ e ∷ f ∷ g ∷ i ∷ j ∷ k ∷ x) d h l = sets-eq (a ∷ b ∷ e ∷ f ∷ g ∷ i ∷ j ∷ k ∷ []) d 0 (omega arith)
+
+-- stores leave the room as it is
+pub sets-long : (xs d : List ℕ) (i : ℕ) → length (sets d i xs) ≡ length d
+sets-long [] d i = refl
+sets-long (x ∷ xs) d i = sets-long xs (set d i x) (suc i) ∙ length-set d i x
+
+pub sets-inside : (xs d : List ℕ) (i k : ℕ) → k < length d → k < length (sets d i xs)
+sets-inside xs d i k h = omega (arith, sets-long xs d i)
 
 module _ (k : ℕ) (x d : List ℕ) (least : k ≤ length x) (room : length x ≤ length d) {d₁ : List ℕ} (first : d₁ ≡ take k x ++ drop k d) where
   front : take k d₁ ≡ take k x

@@ -140,6 +140,42 @@ fn short(out: &mut [u8], content: &[u8]) -> usize
     n
 }
 
+// The first eight, likewise.
+fn eight(out: &mut [u8], content: &[u8])
+    requires { ⌜ (8 ≤ length (now out)) × (8 ≤ length (now content)) ⌝ }
+    ensures { λ r. ⌜ now (out .exit) ≡ take 8 (now (content .entry)) ++ drop 8 (now (out .entry)) ⌝ }
+{
+    let a = content[0];
+    let b = content[1];
+    let c = content[2];
+    let d = content[3];
+    let e = content[4];
+    let f = content[5];
+    let g = content[6];
+    let h = content[7];
+    out[0] = a;
+    out[1] = b;
+    out[2] = c;
+    out[3] = d;
+    out[4] = e;
+    out[5] = f;
+    out[6] = g;
+    out[7] = h;
+}
+
+// Eight to sixteen bytes: the first eight and the last eight.
+fn middling(out: &mut [u8], content: &[u8]) -> usize
+    requires { ⌜ (8 ≤ length (now content)) × (length (now content) ≤ 16) ⌝ }
+    ensures { λ r. ⌜ Put (now (content .entry)) (now (out .entry)) r (now (out .exit)) ⌝ }
+{
+    let n = content.len();
+    if n <= out.len() {
+        eight(out, content);
+        eight(&mut out[n - 8..], &content[n - 8..]);
+    }
+    n
+}
+
 // A name is mostly short.
 pub fn raw(out: &mut [u8], content: &[u8]) -> usize
     ensures { λ r. ⌜ Put (now (content .entry)) (now (out .entry)) r (now (out .exit)) ⌝ }
@@ -147,6 +183,9 @@ pub fn raw(out: &mut [u8], content: &[u8]) -> usize
     if 4 <= content.len() {
         if content.len() <= 8 {
             return short(out, content);
+        }
+        if content.len() <= 16 {
+            return middling(out, content);
         }
     }
     byte_by_byte(out, content)
