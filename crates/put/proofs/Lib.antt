@@ -4,7 +4,7 @@ pub mod Stored
 pub mod Shortest
 -- bytes copied, and what stands behind its length
 pub mod Lengths
--- bytes copied in two parts
+-- bytes copied in parts
 pub mod Parts
 -- rows that all have the same number of bytes
 pub mod Even

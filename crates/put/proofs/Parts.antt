@@ -1,12 +1,14 @@
--- Bytes copied in two parts of k bytes, the first and the last, which may overlap.
+-- Bytes copied in parts, of which the last may overlap the one before.
 use mathlib.Core.List.{List, [], _++_, _∷_, append-assoc, append-nil}
 use mathlib.Core.Path.{_∙_, _≡_, ap, ap₂, refl, sym}
 use Prim.Native.Nat.{_+_, _-_, _<_, _≤_, suc, ℕ}
+use native.Mathlib.Nat.{zero-add}
 use native.Mathlib.Omega.{arith}
 use borrow.Rule.Slice.PartMut.{midOf, putMid}
 use lib.ListN.{drop, drop-of-length-le, getD, length, length-append, length-drop, length-set, set, take, take-append-drop}
-use lib.Seq.{drop-append-seam, drop-drop, length-take-le, sets, sets-eq, take-all, take-append-seam, take-take}
+use lib.Seq.{drop-append-seam, drop-drop, length-take-le, sets, sets-eq, take-add, take-all, take-append-seam, take-take}
 use Rattle.put.specs.Put.{Put}
+use Rattle.put.proofs.Lengths.{Copied}
 use Rattle.put.proofs.Stored.{put-all}
 
 -- the first four
@@ -47,21 +49,43 @@ module _ (k : ℕ) (x d : List ℕ) (least : k ≤ length x) (room : length x �
   long : length d₁ ≡ length d
   long = ap length first ∙ length-append (take k x) (drop k d) ∙ omega (arith, length-take-le k x least, length-drop k d)
 
-  pub two-parts : length x ≤ k + k → {e : List ℕ} → e ≡ take k (midOf (length x - k) (length x - (length x - k)) x) ++ drop k (midOf (length x - k) (length d₁ - (length x - k)) d₁) →
-      Put x d (length x) (putMid (length x - k) (length d₁ - (length x - k)) d₁ e)
-  two-parts most {e} last =
-      let at : ℕ = length x - k in
-      let a : take at d₁ ≡ take at x = sym (take-take at k d₁ (omega arith)) ∙ ap (take at) front ∙ take-take at k x (omega arith) in
-      let b : take k (midOf at (length x - at) x) ≡ drop at x =
-      ap (take k) (take-all (length x - at) (drop at x) (omega (arith, length-drop at x))) ∙ take-all k (drop at x) (omega (arith, length-drop at x)) in
-      let s : k + (length x - k) ≡ length x = omega arith in
-      let t : at + k ≡ k + (length x - k) = omega arith in
-      let g : drop k (midOf at (length d₁ - at) d₁) ≡ drop (length x) d =
-      ap (drop k) (take-all (length d₁ - at) (drop at d₁) (omega (arith, length-drop at d₁))) ∙ drop-drop k at d₁ ∙ ap (λ (j : ℕ). drop j d₁) t
-      ∙ sym (drop-drop at k d₁) ∙ ap (drop at) behind ∙ drop-drop at k d ∙ ap (λ (j : ℕ). drop j d) s in
+  -- j bytes from `at` on, over the end of the first part or right behind it
+  pub part-more : (at j : ℕ) → at ≤ k → k ≤ at + j → at + j ≤ length x → {e : List ℕ} → e ≡ take j (midOf at (length x - at) x) ++ drop j (midOf at (length d₁ - at) d₁) →
+      putMid at (length d₁ - at) d₁ e ≡ take (at + j) x ++ drop (at + j) d
+  part-more at j h i l {e} last =
+      let a : take at d₁ ≡ take at x = sym (take-take at k d₁ h) ∙ ap (take at) front ∙ take-take at k x h in
+      let b : take j (midOf at (length x - at) x) ≡ take j (drop at x) = ap (take j) (take-all (length x - at) (drop at x) (omega (arith, length-drop at x))) in
+      let s : k + (at + j - k) ≡ at + j = omega arith in
+      let g : drop j (midOf at (length d₁ - at) d₁) ≡ drop (at + j) d =
+      ap (drop j) (take-all (length d₁ - at) (drop at d₁) (omega (arith, length-drop at d₁))) ∙ drop-drop j at d₁ ∙ ap (λ (m : ℕ). drop m d₁) (sym s)
+      ∙ sym (drop-drop (at + j - k) k d₁) ∙ ap (drop (at + j - k)) behind ∙ drop-drop (at + j - k) k d ∙ ap (λ (m : ℕ). drop m d) s in
       let n : drop (length d₁ - at) (drop at d₁) ≡ [] = drop-of-length-le (drop at d₁) {i = length d₁ - at} (omega (arith, length-drop at d₁)) in
-      put-all x d (length x) refl _ room
-      (ap₂ (λ (y z : List ℕ). y ++ (e ++ z)) a n
+      ap₂ (λ (y z : List ℕ). y ++ (e ++ z)) a n
       ∙ ap (λ (y : List ℕ). take at x ++ y) (append-nil e ∙ last ∙ ap₂ (λ (y z : List ℕ). y ++ z) b g)
-      ∙ sym (append-assoc (take at x) (drop at x) (drop (length x) d))
-      ∙ ap (λ (y : List ℕ). y ++ drop (length x) d) (take-append-drop at x))
+      ∙ sym (append-assoc (take at x) (take j (drop at x)) (drop (at + j) d))
+      ∙ ap (λ (y : List ℕ). y ++ drop (at + j) d) (sym (take-add at j x))
+
+  -- the last j
+  pub last-part : (j : ℕ) → j ≤ length x → length x ≤ k + j → {e : List ℕ} → e ≡ take j (midOf (length x - j) (length x - (length x - j)) x) ++ drop j (midOf (length x - j) (length d₁ - (length x - j)) d₁) →
+      Put x d (length x) (putMid (length x - j) (length d₁ - (length x - j)) d₁ e)
+  last-part j h most {e} last =
+      let s : length x - j + j ≡ length x = omega arith in
+      put-all x d (length x) refl _ room
+      (part-more (length x - j) j (omega arith) (omega arith) (omega arith) last
+      ∙ ap₂ (λ (y : List ℕ) (m : ℕ). y ++ drop m d) (take-all (length x - j + j) x (omega arith)) s)
+
+-- ---- eight behind eight
+
+module _ {d x out : List ℕ} {p : ℕ} (a : Copied d x out p) where
+  first : out ≡ take p x ++ drop p d
+  first = a .same ∙ ap (λ (j : ℕ). take p x ++ drop j d) (zero-add p)
+
+  pub eight-more : 8 < length x - p → {e : List ℕ} → e ≡ take 8 (midOf p (length x - p) x) ++ drop 8 (midOf p (length out - p) out) → Copied d x (putMid p (length out - p) out e) (p + 8)
+  eight-more h {e} q =
+      let l : p + 8 ≤ length x = omega arith in
+      let s : putMid p (length out - p) out e ≡ take (p + 8) x ++ drop (p + 8) d = part-more p x d (a .below) (a .room) first p 8 (omega arith) (omega arith) l q in
+      record { below = l; room = a .room; long = long (p + 8) x d l (a .room) s; same = s ∙ ap (λ (j : ℕ). take (p + 8) x ++ drop j d) (sym (zero-add (p + 8))) }
+
+  pub eights-end : 8 ≤ length x → length x - p ≤ 8 → {e : List ℕ} → e ≡ take 8 (midOf (length x - 8) (length x - (length x - 8)) x) ++ drop 8 (midOf (length x - 8) (length out - (length x - 8)) out) →
+      Put x d (length x) (putMid (length x - 8) (length out - (length x - 8)) out e)
+  eights-end h l q = last-part p x d (a .below) (a .room) first 8 h (omega arith) q

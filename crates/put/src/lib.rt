@@ -176,6 +176,23 @@ fn middling(out: &mut [u8], content: &[u8]) -> usize
     n
 }
 
+// More: eight behind eight, and the last eight.
+fn by_eights(out: &mut [u8], content: &[u8]) -> usize
+    requires { ⌜ 8 ≤ length (now content) ⌝ }
+    ensures { λ r. ⌜ Put (now (content .entry)) (now (out .entry)) r (now (out .exit)) ⌝ }
+{
+    let n = content.len();
+    if n <= out.len() {
+        let mut p: usize = 0;
+        while 8 < n - p {
+            eight(&mut out[p..], &content[p..]);
+            p = p + 8;
+        }
+        eight(&mut out[n - 8..], &content[n - 8..]);
+    }
+    n
+}
+
 // A name is mostly short.
 pub fn raw(out: &mut [u8], content: &[u8]) -> usize
     ensures { λ r. ⌜ Put (now (content .entry)) (now (out .entry)) r (now (out .exit)) ⌝ }
@@ -187,6 +204,7 @@ pub fn raw(out: &mut [u8], content: &[u8]) -> usize
         if content.len() <= 16 {
             return middling(out, content);
         }
+        return by_eights(out, content);
     }
     byte_by_byte(out, content)
 }

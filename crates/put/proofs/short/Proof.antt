@@ -1,6 +1,6 @@
 -- The last part stands behind what it leaves of the first.
 use mathlib.Core.Path.{refl}
-use Rattle.put.proofs.Parts.{two-parts}
+use Rattle.put.proofs.Parts.{last-part}
 use Rattle.put.proofs.Stored.{put-none}
 use borrow.Author.Needs.{needs}
 use Rattle.put.proofs.short.Statement.{statement}
@@ -40,7 +40,7 @@ same-length : tie.Need-same-length
 same-length c = search needs
 
 returns : tie.Need-returns
-returns c = two-parts 4 _ _ (c .before .before .before .before .before .before .before .before .before .before .before .before .pre .0) (c .before .before .before .before .before .before .before .before .before .if1 .taken) (c .before .before .before .before .before .before .before .four .ensures) (c .before .before .before .before .before .before .before .before .before .before .before .before .pre .1) (c .before .before .four2 .ensures)
+returns c = last-part 4 _ _ (c .before .before .before .before .before .before .before .before .before .before .before .before .pre .0) (c .before .before .before .before .before .before .before .before .before .if1 .taken) (c .before .before .before .before .before .before .before .four .ensures) 4 (c .before .before .before .before .before .before .before .before .before .before .before .before .pre .0) (c .before .before .before .before .before .before .before .before .before .before .before .before .pre .1) (c .before .before .four2 .ensures)
 
 returns-2 : tie.Need-returns-2
 returns-2 c = put-none _ _ _ refl (c .if1 .left)
