@@ -28,6 +28,13 @@ bothHold m n = holds w32 m && holds w32 n
 unfoldable pub partitionHolds : List ℕ → Bool
 partitionHolds r = bothHold (getD r 0 0) (getD r 2 0)
 
+-- no number of the two is below zero
+unfoldable pub bothSmall : ℕ → ℕ → Bool
+bothSmall m n = ltb m 2147483648 && ltb n 2147483648
+
+unfoldable pub partitionSmall : List ℕ → Bool
+partitionSmall r = bothSmall (getD r 0 0) (getD r 2 0)
+
 unfoldable pub partitionsHold : List ℕ → Bool
 partitionsHold partitions = all partitionHolds (rowsOf 3 partitions)
 

@@ -3,8 +3,8 @@
 ghost use mathlib.Core.Path.{_≡_};
 ghost use lib.ListN.{length};
 ghost use Prim.Native.Nat.{_<_, _^_, _≤_};
-ghost use Rattle.layout.specs.Tables.{rowsOf, sum};
-ghost use Rattle.fetch_request.specs.Judged.{bothHold, largestHolds, leadHolds, levelHolds, limitsHold, partitionsHold, requestFault, requestGood, topicFault, topicsFault};
+ghost use Rattle.layout.specs.Tables.{all, rowsOf, sum};
+ghost use Rattle.fetch_request.specs.Judged.{bothHold, bothSmall, largestHolds, leadHolds, levelHolds, limitsHold, partitionSmall, partitionsHold, requestFault, requestGood, topicFault, topicsFault};
 ghost use Rattle.fetch_request.specs.Written.{cellsOf};
 use crate::Own;
 use primitives::BAD_TABLES;
@@ -82,7 +82,31 @@ fn limits_fit(b: bool, i: bool, largest: u64, level: u64) -> bool
 
 // ---- 11 and 7: topic by topic
 
-fn partitions_fit(partitions: &[u64]) -> bool
+// No number below zero: the test that is shorter.
+fn both_small(m: u64, n: u64) -> bool
+    ensures { λ r. ⌜ r ≡ bothSmall m n ⌝ }
+{
+    if 2147483648 <= m {
+        return false;
+    }
+    n < 2147483648
+}
+
+fn all_small(partitions: &[u64]) -> bool
+    ensures { λ r. ⌜ r ≡ all partitionSmall (rowsOf 3 (now (partitions .entry))) ⌝ }
+{
+    let n = partitions.len() / 3;
+    let mut i: usize = 0;
+    while i < n {
+        if !both_small(partitions[i * 3], partitions[i * 3 + 2]) {
+            return false;
+        }
+        i = i + 1;
+    }
+    true
+}
+
+fn all_fit(partitions: &[u64]) -> bool
     ensures { λ r. ⌜ r ≡ partitionsHold (now (partitions .entry)) ⌝ }
 {
     let n = partitions.len() / 3;
@@ -94,6 +118,16 @@ fn partitions_fit(partitions: &[u64]) -> bool
         i = i + 1;
     }
     true
+}
+
+// Mostly no number is below zero.
+fn partitions_fit(partitions: &[u64]) -> bool
+    ensures { λ r. ⌜ r ≡ partitionsHold (now (partitions .entry)) ⌝ }
+{
+    if all_small(partitions) {
+        return true;
+    }
+    all_fit(partitions)
 }
 
 // The cells of partitions that the first row of `topics` takes.
