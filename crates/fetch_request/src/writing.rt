@@ -114,10 +114,10 @@ fn all_topics(out: &mut [u8], lent: &[u8], topics: &[u64], partitions: &[u64]) -
     let mut left = topics;
     let mut free = partitions;
     while 3 <= left.len() {
+        let k = cells(left);
         let p = put::behind(done, out.len());
         let more = topic(&mut out[p..], lent, left, free);
         done = put::add(done, more);
-        let k = cells(left);
         free = &free[k..];
         left = &left[3..];
     }

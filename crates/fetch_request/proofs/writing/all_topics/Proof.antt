@@ -15,6 +15,9 @@ abbrev μ-loop : tie.MeasureT-loop
 loop-holds : tie.Need-loop-holds Inv-loop μ-loop
 loop-holds c = going-start _ _ _ _ (c .before .before .before .before .pre)
 
+cells-requires : tie.Need-cells-requires Inv-loop μ-loop
+cells-requires c κs = (c .loop-test .taken, omega (arith, going-enough _ _ _ (c .before .loop .inv) (c .loop-test .taken)))
+
 behind-requires : tie.Need-behind-requires Inv-loop μ-loop
 behind-requires c κs = search needs
 
@@ -28,22 +31,19 @@ part-topic-end : tie.Need-part-topic-end Inv-loop μ-loop
 part-topic-end c = search needs
 
 topic-requires : tie.Need-topic-requires Inv-loop μ-loop
-topic-requires c κs = (c .before .before .loop-test .taken, going-enough _ _ _ (c .before .before .before .loop .inv) (c .before .before .loop-test .taken))
+topic-requires c κs = (c .before .before .before .loop-test .taken, going-enough _ _ _ (c .before .before .before .before .loop .inv) (c .before .before .before .loop-test .taken))
 
 add-requires : tie.Need-add-requires Inv-loop μ-loop
 add-requires c κs = search needs
 
-cells-requires : tie.Need-cells-requires Inv-loop μ-loop
-cells-requires c κs = (c .before .before .before .before .before .before .loop-test .taken, omega (arith, going-enough _ _ _ (c .before .before .before .before .before .before .before .loop .inv) (c .before .before .before .before .before .before .loop-test .taken)))
-
 mul-free : tie.Need-mul-free Inv-loop μ-loop
-mul-free c = omega (arith, c .cells .ensures, going-enough _ _ _ (c .before .before .before .before .before .before .before .before .loop .inv) (c .before .before .before .before .before .before .before .loop-test .taken))
+mul-free c = omega (arith, c .before .before .before .before .before .before .cells .ensures, going-enough _ _ _ (c .before .before .before .before .before .before .before .before .loop .inv) (c .before .before .before .before .before .before .before .loop-test .taken))
 
 sub-free : tie.Need-sub-free Inv-loop μ-loop
-sub-free c = omega (arith, c .cells .ensures, going-enough _ _ _ (c .before .before .before .before .before .before .before .before .loop .inv) (c .before .before .before .before .before .before .before .loop-test .taken))
+sub-free c = omega (arith, c .before .before .before .before .before .before .cells .ensures, going-enough _ _ _ (c .before .before .before .before .before .before .before .before .loop .inv) (c .before .before .before .before .before .before .before .loop-test .taken))
 
 part-free-start : tie.Need-part-free-start Inv-loop μ-loop
-part-free-start c = omega (arith, c .cells .ensures, going-enough _ _ _ (c .before .before .before .before .before .before .before .before .loop .inv) (c .before .before .before .before .before .before .before .loop-test .taken))
+part-free-start c = omega (arith, c .before .before .before .before .before .before .cells .ensures, going-enough _ _ _ (c .before .before .before .before .before .before .before .before .loop .inv) (c .before .before .before .before .before .before .before .loop-test .taken))
 
 part-free-end : tie.Need-part-free-end Inv-loop μ-loop
 part-free-end c = search needs
@@ -61,7 +61,7 @@ loop-less : tie.Need-loop-less Inv-loop μ-loop
 loop-less c = search needs
 
 loop-again : tie.Need-loop-again Inv-loop μ-loop
-loop-again c = going-more _ _ _ (c .before .before .before .before .before .before .before .before .before .before .loop .inv) (c .before .before .before .before .before .before .before .before .before .loop-test .taken) _ (c .before .before .before .before .before .before .before .before .behind .ensures) (c .before .before .before .before .before .before .topic .ensures) _ (c .before .before .before .add .ensures) _ (c .before .before .cells .ensures)
+loop-again c = going-more _ _ _ (c .before .before .before .before .before .before .before .before .before .before .loop .inv) (c .before .before .before .before .before .before .before .before .before .loop-test .taken) _ (c .before .before .before .before .before .before .before .behind .ensures) (c .before .before .before .before .before .topic .ensures) _ (c .before .before .add .ensures) _ (c .before .before .before .before .before .before .before .before .cells .ensures)
 
 same-length : tie.Need-same-length Inv-loop μ-loop
 same-length c = search needs
@@ -76,13 +76,13 @@ all-topics-spec =
     Inv-loop
     μ-loop
     loop-holds
+    cells-requires
     behind-requires
     sub-topic
     part-topic-start
     part-topic-end
     topic-requires
     add-requires
-    cells-requires
     mul-free
     sub-free
     part-free-start
