@@ -105,7 +105,7 @@ fn topic(out: &mut [u8], lent: &[u8], topics: &[u64], partitions: &[u64]) -> usi
     all
 }
 
-// Topic behind topic.
+// Topic behind topic. The cells are told before the topic is stored, so that its count is loaded once.
 fn all_topics(out: &mut [u8], lent: &[u8], topics: &[u64], partitions: &[u64]) -> usize
     requires { ⌜ sum cellsOf (rowsOf 3 (now topics)) ≤ length (now partitions) ⌝ }
     ensures { λ r. ⌜ Capped (topicsBytes (now (lent .entry)) (now (topics .entry)) (now (partitions .entry))) (now (out .entry)) r (now (out .exit)) ⌝ }
