@@ -32,6 +32,7 @@ partitionHolds r = bothHold (getD r 0 0) (getD r 2 0)
 unfoldable pub bothSmall : ℕ → ℕ → Bool
 bothSmall m n = ltb m 2147483648 && ltb n 2147483648
 
+-- nor one of a partition, but for its offset, which may be any
 unfoldable pub partitionSmall : List ℕ → Bool
 partitionSmall r = bothSmall (getD r 0 0) (getD r 2 0)
 
