@@ -11,14 +11,6 @@ use Rattle.put.specs.Put.{Put}
 use Rattle.put.proofs.Lengths.{Copied}
 use Rattle.put.proofs.Stored.{put-all}
 
--- the first four
-pub first-four : (x d : List ℕ) → 4 ≤ length x → 4 ≤ length d → sets d 0 (getD x 0 0 ∷ getD x 1 0 ∷ getD x 2 0 ∷ getD x 3 0 ∷ []) ≡ take 4 x ++ drop 4 d
-first-four [] d h l = absurd (omega arith)
-first-four (a ∷ []) d h l = absurd (omega arith)
-first-four (a ∷ b ∷ []) d h l = absurd (omega arith)
-first-four (a ∷ b ∷ e ∷ []) d h l = absurd (omega arith)
-first-four (a ∷ b ∷ e ∷ f ∷ x) d h l = sets-eq (a ∷ b ∷ e ∷ f ∷ []) d 0 (omega arith)
-
 -- the first eight
 pub first-eight : (x d : List ℕ) → 8 ≤ length x → 8 ≤ length d → sets d 0 (getD x 0 0 ∷ getD x 1 0 ∷ getD x 2 0 ∷ getD x 3 0 ∷ getD x 4 0 ∷ getD x 5 0 ∷ getD x 6 0 ∷ getD x 7 0 ∷ []) ≡ take 8 x ++ drop 8 d
 first-eight [] d h l = absurd (omega arith)

@@ -112,35 +112,7 @@ fn byte_by_byte(out: &mut [u8], content: &[u8]) -> usize
     content.len()
 }
 
-// The first four. All are read before the first is stored, so that one load and one store do.
-fn four(out: &mut [u8], content: &[u8])
-    requires { ⌜ (4 ≤ length (now out)) × (4 ≤ length (now content)) ⌝ }
-    ensures { λ r. ⌜ now (out .exit) ≡ take 4 (now (content .entry)) ++ drop 4 (now (out .entry)) ⌝ }
-{
-    let a = content[0];
-    let b = content[1];
-    let c = content[2];
-    let d = content[3];
-    out[0] = a;
-    out[1] = b;
-    out[2] = c;
-    out[3] = d;
-}
-
-// Four to eight bytes: the first four and the last four, which may overlap.
-fn short(out: &mut [u8], content: &[u8]) -> usize
-    requires { ⌜ (4 ≤ length (now content)) × (length (now content) ≤ 8) ⌝ }
-    ensures { λ r. ⌜ Put (now (content .entry)) (now (out .entry)) r (now (out .exit)) ⌝ }
-{
-    let n = content.len();
-    if n <= out.len() {
-        four(out, content);
-        four(&mut out[n - 4..], &content[n - 4..]);
-    }
-    n
-}
-
-// The first eight, likewise.
+// The first eight. All are read before the first is stored, so that one load and one store do.
 fn eight(out: &mut [u8], content: &[u8])
     requires { ⌜ (8 ≤ length (now out)) × (8 ≤ length (now content)) ⌝ }
     ensures { λ r. ⌜ now (out .exit) ≡ take 8 (now (content .entry)) ++ drop 8 (now (out .entry)) ⌝ }
@@ -193,20 +165,17 @@ fn by_eights(out: &mut [u8], content: &[u8]) -> usize
     n
 }
 
-// A name is mostly short.
+// Longer contents go by eights.
 pub fn raw(out: &mut [u8], content: &[u8]) -> usize
     ensures { λ r. ⌜ Put (now (content .entry)) (now (out .entry)) r (now (out .exit)) ⌝ }
 {
-    if 4 <= content.len() {
-        if content.len() <= 8 {
-            return short(out, content);
-        }
-        if content.len() <= 16 {
-            return middling(out, content);
-        }
-        return by_eights(out, content);
+    if content.len() < 8 {
+        return byte_by_byte(out, content);
     }
-    byte_by_byte(out, content)
+    if content.len() <= 16 {
+        return middling(out, content);
+    }
+    by_eights(out, content)
 }
 
 // One more than n, as a compact length has it. No slice and no table reaches the last branch: one more than n is 65 bits.
