@@ -2,15 +2,19 @@
 // A cell is 64 bits, two's complement. Where a struct says `number` 0 the call accepted, and `place` and `need` are 0;
 // else it refused with that number of docs/RULES.md, section 10, at that place, and every other field is 0.
 ghost use mathlib.Core.Path.{_≡_};
+ghost use mathlib.Core.List.{[]};
+ghost use Rattle.layout.specs.Answers.{accepted, refused};
+ghost use Rattle.primitives.specs.Answers.{ofRefusal};
 ghost use Rattle.writers.specs.Answers.{ofWritten};
 ghost use Rattle.gateway.specs.Replies.{numbers};
+use primitives::Refusal;
 use writers::Written;
 
 pub mod primitive;
 pub mod tagged;
 pub mod versions;
 
-// The answer of a writer: `used` bytes were written.
+// What every answer begins with, and that of a writer is: `used` bytes were read or written.
 #[repr(C)]
 pub struct Numbers {
     pub number: u64,
@@ -41,22 +45,35 @@ pub struct PrimitiveNumbers {
     pub length: u64,
 }
 
+// So many bytes were read or written.
+pub fn accepted(used: usize) -> Numbers
+    ensures { λ r. ⌜ r ≡ numbers (accepted [] used) ⌝ }
+{
+    Numbers {
+        number: 0,
+        place: 0,
+        need: 0,
+        used: used as u64,
+    }
+}
+
+pub fn refused(e: Refusal) -> Numbers
+    ensures { λ r. ⌜ r ≡ numbers (refused (ofRefusal e)) ⌝ }
+{
+    Numbers {
+        number: e.number as u64,
+        place: e.place as u64,
+        need: e.need as u64,
+        used: 0,
+    }
+}
+
 // What a writer answers, as numbers.
 pub fn written(w: Written) -> Numbers
     ensures { λ r. ⌜ r ≡ numbers (ofWritten w) ⌝ }
 {
     match w {
-        Written::Wrote(n) => Numbers {
-            number: 0,
-            place: 0,
-            need: 0,
-            used: n as u64,
-        },
-        Written::Refused(e) => Numbers {
-            number: e.number as u64,
-            place: e.place as u64,
-            need: e.need as u64,
-            used: 0,
-        },
+        Written::Wrote(n) => accepted(n),
+        Written::Refused(e) => refused(e),
     }
 }

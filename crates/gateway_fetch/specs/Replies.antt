@@ -5,12 +5,13 @@ use Prim.Native.Nat.{ℕ}
 use lib.ListN.{getD}
 use Rattle.layout.specs.Answers.{Answer, accepted, refused}
 use Rattle.versioned.specs.Cells.{versionedRow}
+use Rattle.gateway.specs.Replies.{numbers}
 use Rattle.gateway_fetch.specs.declared.FetchNumbers.{FetchNumbers}
 
 -- the own row is throttle time (kind, number), number of topics
 abbrev pub fetchNumbers : Answer → FetchNumbers
-fetchNumbers (accepted cs n) = record { number = 0; place = 0; need = 0; used = n; timed = getD cs 0 0; throttle = getD cs 1 0; topics = getD cs 2 0 }
-fetchNumbers (refused e) = record { number = e .number; place = e .place; need = e .need; used = 0; timed = 0; throttle = 0; topics = 0 }
+fetchNumbers (accepted cs n) = record { answer = numbers (accepted cs n); timed = getD cs 0 0; throttle = getD cs 1 0; topics = getD cs 2 0 }
+fetchNumbers (refused e) = record { answer = numbers (refused e); timed = 0; throttle = 0; topics = 0 }
 
 -- the row that a caller lends: replica, max wait, min bytes, max bytes (kind, number), isolation level (kind, number), number of topics
 unfoldable pub requestRow : List ℕ → List ℕ

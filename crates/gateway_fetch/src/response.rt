@@ -16,10 +16,7 @@ fn accepted(body: ResponseBody, used: usize) -> FetchNumbers
 {
     let throttle = body.throttle;
     FetchNumbers {
-        number: 0,
-        place: 0,
-        need: 0,
-        used: used as u64,
+        answer: gateway::accepted(used),
         timed: cells::kind(throttle),
         throttle: cells::given(throttle, 0),
         topics: body.topics,
@@ -33,10 +30,7 @@ fn reply(r: ResponseReply) -> FetchNumbers
     match r {
         ResponseReply::Took { body, used } => accepted(body, used),
         ResponseReply::Refused(e) => FetchNumbers {
-            number: e.number as u64,
-            place: e.place as u64,
-            need: e.need as u64,
-            used: 0,
+            answer: gateway::refused(e),
             timed: 0,
             throttle: 0,
             topics: 0,

@@ -7,11 +7,14 @@ use lib.ListN.{getD}
 use mir.Facts.{toZ-ofZ}
 use mir.Syntax.{w16}
 use mir.Val.{SFits, ofZ, toZ}
-use Rattle.layout.specs.Answers.{accepted}
+use Rattle.layout.specs.Answers.{accepted, refused}
 use Rattle.layout.specs.Lookup.{Host, lookup}
+use Rattle.layout.specs.Reading.{Refusal}
 use Rattle.fields.specs.declared.Field.{Field}
 use Rattle.versioned.specs.Cells.{fieldCells, given, versionedCells}
 use Rattle.versioned.specs.declared.Versioned.{Versioned}
+use Rattle.gateway.specs.Replies.{numbers}
+use Rattle.gateway.specs.declared.Numbers.{Numbers}
 use Rattle.gateway_metadata.specs.Replies.{creationRow, hostNumbers, metadataNumbers}
 use Rattle.gateway_metadata.specs.declared.HostNumbers.{HostNumbers}
 use Rattle.gateway_metadata.specs.declared.MetadataNumbers.{MetadataNumbers}
@@ -43,30 +46,36 @@ module _ (k b : ℕ) where
 
 -- ---- a response that was read: the cells of its fields, one behind the other
 
-module _ (t : Versioned) (f : Field) (o : Versioned) (b k n : ℕ) where
-  abbrev shown : ℕ → ℕ → ℕ → ℕ → ℕ → ℕ → ℕ → MetadataNumbers
-  shown a c d e g h i = record { number = 0; place = 0; need = 0; used = n; timed = a; throttle = c; brokers = b; clustered = d; cstart = e; clength = g; controlled = h; controller = i; topics = k }
+module _ (b k : ℕ) where
+  abbrev shown : Numbers → ℕ → ℕ → ℕ → ℕ → ℕ → ℕ → ℕ → MetadataNumbers
+  shown r a c d e g h i = record { answer = r; timed = a; throttle = c; brokers = b; clustered = d; cstart = e; clength = g; controlled = h; controller = i; topics = k }
 
-  by-fields : (t : Versioned) (f : Field) (o : Versioned) →
-      shown (getD (versionedCells t) 0 0) (given 0 t) (getD (fieldCells f) 0 0) (getD (fieldCells f) 1 0) (getD (fieldCells f) 2 0) (getD (versionedCells o) 0 0) (given 0 o)
-      ≡ metadataNumbers (accepted (versionedCells t ++ (b ∷ (fieldCells f ++ (versionedCells o ++ (k ∷ []))))) n)
-  by-fields Versioned.Absent Field.Absent Versioned.Absent = refl
-  by-fields Versioned.Absent Field.Absent (Versioned.Present y) = refl
-  by-fields Versioned.Absent Field.Null Versioned.Absent = refl
-  by-fields Versioned.Absent Field.Null (Versioned.Present y) = refl
-  by-fields Versioned.Absent (Field.Present p q) Versioned.Absent = refl
-  by-fields Versioned.Absent (Field.Present p q) (Versioned.Present y) = refl
-  by-fields (Versioned.Present x) Field.Absent Versioned.Absent = refl
-  by-fields (Versioned.Present x) Field.Absent (Versioned.Present y) = refl
-  by-fields (Versioned.Present x) Field.Null Versioned.Absent = refl
-  by-fields (Versioned.Present x) Field.Null (Versioned.Present y) = refl
-  by-fields (Versioned.Present x) (Field.Present p q) Versioned.Absent = refl
-  by-fields (Versioned.Present x) (Field.Present p q) (Versioned.Present y) = refl
+  module _ (n : ℕ) where
+    by-fields : (t : Versioned) (f : Field) (o : Versioned) →
+        shown (numbers (accepted [] n)) (getD (versionedCells t) 0 0) (given 0 t) (getD (fieldCells f) 0 0) (getD (fieldCells f) 1 0) (getD (fieldCells f) 2 0) (getD (versionedCells o) 0 0) (given 0 o)
+        ≡ metadataNumbers (accepted (versionedCells t ++ (b ∷ (fieldCells f ++ (versionedCells o ++ (k ∷ []))))) n)
+    by-fields Versioned.Absent Field.Absent Versioned.Absent = refl
+    by-fields Versioned.Absent Field.Absent (Versioned.Present y) = refl
+    by-fields Versioned.Absent Field.Null Versioned.Absent = refl
+    by-fields Versioned.Absent Field.Null (Versioned.Present y) = refl
+    by-fields Versioned.Absent (Field.Present p q) Versioned.Absent = refl
+    by-fields Versioned.Absent (Field.Present p q) (Versioned.Present y) = refl
+    by-fields (Versioned.Present x) Field.Absent Versioned.Absent = refl
+    by-fields (Versioned.Present x) Field.Absent (Versioned.Present y) = refl
+    by-fields (Versioned.Present x) Field.Null Versioned.Absent = refl
+    by-fields (Versioned.Present x) Field.Null (Versioned.Present y) = refl
+    by-fields (Versioned.Present x) (Field.Present p q) Versioned.Absent = refl
+    by-fields (Versioned.Present x) (Field.Present p q) (Versioned.Present y) = refl
 
-  pub fields-told :
-      (a c d e g h i : ℕ) → a ≡ getD (versionedCells t) 0 0 → c ≡ given 0 t → d ≡ getD (fieldCells f) 0 0 → e ≡ getD (fieldCells f) 1 0 → g ≡ getD (fieldCells f) 2 0 → h ≡ getD (versionedCells o) 0 0 → i ≡ given 0 o
-      → shown a c d e g h i ≡ metadataNumbers (accepted (versionedCells t ++ (b ∷ (fieldCells f ++ (versionedCells o ++ (k ∷ []))))) n)
-  fields-told a c d e g h i l m p q r s u = (λ x. shown (l x) (m x) (p x) (q x) (r x) (s x) (u x)) ∙ by-fields t f o
+    module _ (t : Versioned) (f : Field) (o : Versioned) where
+      pub fields-told :
+          (r : Numbers) (a c d e g h i : ℕ) → r ≡ numbers (accepted [] n) → a ≡ getD (versionedCells t) 0 0 → c ≡ given 0 t → d ≡ getD (fieldCells f) 0 0 → e ≡ getD (fieldCells f) 1 0 → g ≡ getD (fieldCells f) 2 0 → h ≡ getD (versionedCells o) 0 0 → i ≡ given 0 o
+          → shown r a c d e g h i ≡ metadataNumbers (accepted (versionedCells t ++ (b ∷ (fieldCells f ++ (versionedCells o ++ (k ∷ []))))) n)
+      fields-told r a c d e g h i j l m p q s u v = (λ x. shown (j x) (l x) (m x) (p x) (q x) (s x) (u x) (v x)) ∙ by-fields t f o
+
+-- and of a refusal: none
+pub none-told : (e : Refusal) (r : Numbers) → r ≡ numbers (refused e) → shown 0 0 r 0 0 0 0 0 0 0 ≡ metadataNumbers (refused e)
+none-told e r h = ap (λ (x : Numbers). shown 0 0 x 0 0 0 0 0 0 0) h
 
 -- ---- a host, at a version that passed an argument
 

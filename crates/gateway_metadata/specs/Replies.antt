@@ -5,16 +5,14 @@ use Prim.Native.Nat.{ℕ, zero, suc}
 use lib.ListN.{getD}
 use Rattle.layout.specs.Answers.{Answer, accepted, refused}
 use Rattle.layout.specs.Lookup as Lookup
+use Rattle.gateway.specs.Replies.{numbers}
 use Rattle.gateway_metadata.specs.declared.HostNumbers.{HostNumbers}
 use Rattle.gateway_metadata.specs.declared.MetadataNumbers.{MetadataNumbers}
 
 -- the own row is throttle time (kind, number), number of brokers, cluster (kind, start, length), controller (kind, number), number of topics
 abbrev pub metadataNumbers : Answer → MetadataNumbers
 metadataNumbers (accepted cs n) = record {
-  number = 0;
-  place = 0;
-  need = 0;
-  used = n;
+  answer = numbers (accepted cs n);
   timed = getD cs 0 0;
   throttle = getD cs 1 0;
   brokers = getD cs 2 0;
@@ -26,10 +24,7 @@ metadataNumbers (accepted cs n) = record {
   topics = getD cs 8 0;
 }
 metadataNumbers (refused e) = record {
-  number = e .number;
-  place = e .place;
-  need = e .need;
-  used = 0;
+  answer = numbers (refused e);
   timed = 0;
   throttle = 0;
   brokers = 0;

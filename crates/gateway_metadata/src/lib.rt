@@ -1,4 +1,6 @@
 // The C interface to Metadata bodies and to the lookup of a host: each answer as a struct of numbers, of the form that crates/gateway/src/lib.rt has.
+use gateway::Numbers;
+
 pub mod hosts;
 pub mod request;
 pub mod response;
@@ -7,10 +9,7 @@ pub mod response;
 // `clustered` is 0 where there is no cluster in that version, 1 where it is null, and 2 where it is a part of the message.
 #[repr(C)]
 pub struct MetadataNumbers {
-    pub number: u64,
-    pub place: u64,
-    pub need: u64,
-    pub used: u64,
+    pub answer: Numbers,
     pub timed: u64,
     pub throttle: u64,
     pub brokers: u64,

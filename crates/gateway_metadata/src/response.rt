@@ -52,10 +52,7 @@ fn accepted(body: ResponseBody, used: usize) -> MetadataNumbers
     let cluster = body.cluster;
     let controller = body.controller;
     MetadataNumbers {
-        number: 0,
-        place: 0,
-        need: 0,
-        used: used as u64,
+        answer: gateway::accepted(used),
         timed: cells::kind(throttle),
         throttle: cells::given(throttle, 0),
         brokers: body.brokers,
@@ -75,10 +72,7 @@ fn reply(r: ResponseReply) -> MetadataNumbers
     match r {
         ResponseReply::Took { body, used } => accepted(body, used),
         ResponseReply::Refused(e) => MetadataNumbers {
-            number: e.number as u64,
-            place: e.place as u64,
-            need: e.need as u64,
-            used: 0,
+            answer: gateway::refused(e),
             timed: 0,
             throttle: 0,
             brokers: 0,

@@ -3,6 +3,7 @@ use mathlib.Core.Path.{_∙_, ap, sym}
 use Rattle.fetch.specs.Answers.{ofResponseReply}
 use Rattle.fetch.specs.declared.ResponseReply.{ResponseReply}
 use Rattle.gateway_fetch.specs.Replies.{fetchNumbers}
+use Rattle.gateway_fetch.proofs.Rows.{none-told}
 use borrow.Author.Needs.{needs}
 use Rattle.gateway_fetch.proofs.response.reply.Statement.{statement}
 use Rattle.gateway_fetch.proofs.response.reply.Tie as tie
@@ -16,15 +17,15 @@ accepted-requires c κs = search needs
 enum-known-r-2 : tie.Need-enum-known-r-2
 enum-known-r-2 c = search needs
 
-cast-t6 : tie.Need-cast-t6
-cast-t6 c = search needs
+refused-requires : tie.Need-refused-requires
+refused-requires c κs = search needs
 
 returns : tie.Need-returns
 returns c = c .accepted .ensures ∙ ap (λ (x : ResponseReply). fetchNumbers (ofResponseReply x)) (sym (c .before .before .r .given .1))
 
 returns-2 : tie.Need-returns-2
-returns-2 c = ap (λ (x : ResponseReply). fetchNumbers (ofResponseReply x)) (sym (c .before .before .r2 .given .1))
+returns-2 c = none-told _ _ (c .refused .ensures) ∙ ap (λ (x : ResponseReply). fetchNumbers (ofResponseReply x)) (sym (c .before .before .r2 .given .1))
 
 pub reply-spec : {M : Type 1} → statement M
 reply-spec =
-    tie.close (tie.spec enum-known-r accepted-requires enum-known-r-2 cast-t6 returns returns-2)
+    tie.close (tie.spec enum-known-r accepted-requires enum-known-r-2 refused-requires returns returns-2)

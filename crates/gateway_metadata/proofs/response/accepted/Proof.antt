@@ -4,6 +4,9 @@ use borrow.Author.Needs.{needs}
 use Rattle.gateway_metadata.proofs.response.accepted.Statement.{statement}
 use Rattle.gateway_metadata.proofs.response.accepted.Tie as tie
 
+accepted-requires : tie.Need-accepted-requires
+accepted-requires c κs = search needs
+
 kind-requires : tie.Need-kind-requires
 kind-requires c κs = search needs
 
@@ -26,12 +29,13 @@ given-requires-2 : tie.Need-given-requires-2
 given-requires-2 c κs = search needs
 
 returns : tie.Need-returns
-returns c = fields-told (c .before .before .before .before .before .before .before .args .body .throttle) (c .before .before .before .before .before .before .before .args .body .cluster) (c .before .before .before .before .before .before .before .args .body .controller) _ _ _ _ _ _ _ _ _ _ (c .before .before .before .before .before .before .kind .ensures) (c .before .before .before .before .before .given .ensures) (c .before .before .before .before .kind2 .ensures) (c .before .before .before .start .ensures) (c .before .before .length .ensures) (c .before .kind3 .ensures) (c .given2 .ensures)
+returns c = fields-told _ _ _ (c .before .before .before .before .before .before .before .before .args .body .throttle) (c .before .before .before .before .before .before .before .before .args .body .cluster) (c .before .before .before .before .before .before .before .before .args .body .controller) _ _ _ _ _ _ _ _ (c .before .before .before .before .before .before .before .accepted .ensures) (c .before .before .before .before .before .before .kind .ensures) (c .before .before .before .before .before .given .ensures) (c .before .before .before .before .kind2 .ensures) (c .before .before .before .start .ensures) (c .before .before .length .ensures) (c .before .kind3 .ensures) (c .given2 .ensures)
 
 pub accepted-spec : {M : Type 1} → statement M
 accepted-spec =
     tie.close
     (tie.spec
+    accepted-requires
     kind-requires
     given-requires
     kind-requires-2
