@@ -13,12 +13,10 @@ use crate::ResponseReply;
 use crate::body::Walked;
 use crate::body::body_at;
 use fetch_topics::Marks;
-use primitives::MOST;
-use primitives::NO_VERSION;
-use primitives::TOO_LONG;
-use primitives::at;
 use primitives::no_room;
 use primitives::version_of;
+use walks::Admitted;
+use walks::admit;
 
 // Whether all tables are large enough, or else the rows that the first too small needs.
 pub enum Room {
@@ -41,14 +39,10 @@ fn walked(msg: &[u8], v: u64) -> Walked
 pub fn measure(msg: &[u8], version: i16) -> Walked
     ensures { λ r. ⌜ ofMeasure r ≡ metered (seen false Fetch.response version (now (msg .entry))) ⌝ }
 {
-    let v = version_of(version);
-    if 4 < v {
-        return Walked::Refused(at(NO_VERSION, 0));
+    match admit(version, 4, msg.len()) {
+        Admitted::Version(v) => walked(msg, v),
+        Admitted::Refused(e) => Walked::Refused(e),
     }
-    if MOST < msg.len() {
-        return Walked::Refused(at(TOO_LONG, 0));
-    }
-    walked(msg, v)
 }
 
 // In table order: the cells that there will be, and the cells lent.

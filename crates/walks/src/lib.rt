@@ -1,5 +1,11 @@
-// What walks over the rows of a table answer, for any table of any body.
+// What walks over the rows of a table answer, for any table of any body; and what is judged in front of a walk.
+ghost use Rattle.walks.specs.Admission.{Judged};
+use primitives::MOST;
+use primitives::NO_VERSION;
 use primitives::Refusal;
+use primitives::TOO_LONG;
+use primitives::at;
+use primitives::version_of;
 
 // The place behind some rows, and the mark of their table.
 pub enum Filled {
@@ -15,4 +21,24 @@ pub enum Counted {
         mark: usize,
     },
     Refused(Refusal),
+}
+
+// The version of a message as a number, or why none of its bytes is looked at.
+pub enum Admitted {
+    Version(u64),
+    Refused(Refusal),
+}
+
+// The version first, up to the last one that there is, and then the size.
+pub fn admit(version: i16, last: u64, size: usize) -> Admitted
+    ensures { λ r. ⌜ Judged version last size r ⌝ }
+{
+    let v = version_of(version);
+    if last < v {
+        return Admitted::Refused(at(NO_VERSION, 0));
+    }
+    if MOST < size {
+        return Admitted::Refused(at(TOO_LONG, 0));
+    }
+    Admitted::Version(v)
 }

@@ -1,43 +1,36 @@
 -- The version first, then the size, then the bytes.
-use mathlib.Core.Path.{_∙_, ap}
 use native.Mathlib.Omega.{arith}
 use Rattle.layout.specs.Messages.Metadata as Meta
-use Rattle.primitives.specs.Answers.{versionOf}
-use Rattle.primitives.proofs.Versions.{known, passed}
-use Rattle.rows.proofs.Metered.{metered-long, metered-same, metered-unknown}
+use Rattle.walks.proofs.Admission.{metered-within, metered-without, within}
 use borrow.Author.Needs.{needs}
 use Rattle.metadata.proofs.response.measure.Statement.{statement}
 use Rattle.metadata.proofs.response.measure.Tie as tie
 
-version-of-requires : tie.Need-version-of-requires
-version-of-requires c κs = search needs
+admit-requires : tie.Need-admit-requires
+admit-requires c κs = search needs
 
-at-requires : tie.Need-at-requires
-at-requires c κs = search needs
-
-returns : tie.Need-returns
-returns c = metered-unknown Meta.response _ _ _ _ (λ n i. passed _ (c .before .before .before .before .fits .version) _ (c .before .before .version-of .ensures) ∙ ap versionOf i) (c .before .if1 .taken) (c .at .ensures)
-
-at-requires-2 : tie.Need-at-requires-2
-at-requires-2 c κs = search needs
-
-returns-2 : tie.Need-returns-2
-returns-2 c = metered-long Meta.response _ _ _ _ (known Meta.response _ _ (passed _ (c .before .before .before .before .before .fits .version) _ (c .before .before .before .version-of .ensures)) (c .before .before .if1 .left) (omega arith)) (c .before .before .if1 .left) (c .before .if2 .taken) (c .at2 .ensures)
+enum-known-v : tie.Need-enum-known-v
+enum-known-v c = search needs
 
 walked-requires : tie.Need-walked-requires
-walked-requires c κs = search needs
+walked-requires c κs = within Meta.response (omega arith) _ (c .before .before .before .before .before .fits .version) (c .before .before .before .before .before .args .msg .now) _ (c .before .before .before .admit .ensures) _ (c .before .v .given .1)
 
-returns-3 : tie.Need-returns-3
-returns-3 c = metered-same Meta.response _ _ _ (known Meta.response _ _ (passed _ (c .before .before .before .before .before .fits .version) _ (c .before .before .before .version-of .ensures)) (c .before .before .if1 .left) (omega arith)) _ (c .walked .ensures)
+enum-known-e : tie.Need-enum-known-e
+enum-known-e c = search needs
+
+returns : tie.Need-returns
+returns c = metered-within Meta.response (omega arith) _ (c .before .before .before .before .before .before .fits .version) _ _ (c .before .before .before .before .admit .ensures) _ (c .before .before .v .given .1) _ (c .walked .ensures)
+
+returns-2 : tie.Need-returns-2
+returns-2 c = metered-without Meta.response (omega arith) _ (c .before .before .before .before .before .fits .version) _ _ (c .before .before .before .admit .ensures) _ (c .before .e .given .1)
 
 pub measure-spec : {M : Type 1} → statement M
 measure-spec =
     tie.close
     (tie.spec
-    version-of-requires
-    at-requires
-    returns
-    at-requires-2
-    returns-2
+    admit-requires
+    enum-known-v
     walked-requires
-    returns-3)
+    enum-known-e
+    returns
+    returns-2)
