@@ -2,10 +2,11 @@
 use mathlib.Core.Bool.{false}
 use mathlib.Core.List.{List}
 use mathlib.Core.Logic.{_⊎_, inl, inr}
-use mathlib.Core.Path.{_≡_, ap, refl, subst}
+use mathlib.Core.Path.{_≡_, _∙_, ap, refl, subst, sym}
 use Prim.Native.Nat.{_<_, _≤_, ℕ}
 use lib.IntN.{pos, ℤ}
 use lib.ListN.{length}
+use native.Mathlib.Omega.{arith}
 use mir.Facts.{toZ-ofZ}
 use mir.Syntax.{w16}
 use mir.Val.{SFits, ofZ, toZ}
@@ -13,6 +14,7 @@ use Rattle.layout.specs.Answers.{Message, most, seen}
 use Rattle.layout.specs.Reading.{Res, bad, because}
 use Rattle.primitives.specs.Answers.{ofRefusal, versionOf}
 use Rattle.primitives.specs.declared.Refusal.{Refusal}
+use Rattle.primitives.proofs.Unique.{refusalOf}
 use Rattle.primitives.proofs.Versions.{known, passed}
 use Rattle.rows.specs.Meter.{metered}
 use Rattle.rows.proofs.Metered.{metered-long, metered-same, metered-unknown}
@@ -55,3 +57,18 @@ module _ (m : Message) (few : m .last < 65536) (z : ℤ) (f : SFits w16 z) (s : 
       go : ((m .last < versionOf z) × (ofRefusal c ≡ because 1 0)) ⊎ ((versionOf z ≤ m .last) × ((most < length s) × (ofRefusal c ≡ because 2 0))) → bad (ofRefusal c) ≡ metered (seen false m z s)
       go (inl x) = metered-unknown m z s (ofRefusal c) (versionOf z) (λ n i. ap versionOf i) (x .0) (x .1)
       go (inr x) = metered-long m z s (ofRefusal c) (versionOf z) (known m z (versionOf z) refl (x .0) few) (x .0) (x .1 .0) (x .1 .1)
+
+-- ---- any two answers that are allowed are equal
+
+module _ (z : ℤ) (last n : ℕ) where
+  pub admit-unique : (r r′ : Admitted) → Judged z last n r → Judged z last n r′ → r ≡ r′
+  unfolding Judged
+  admit-unique (Admitted.Version v) (Admitted.Version w) (p, _) (q, _) = ap Admitted.Version (p ∙ sym q)
+  admit-unique (Admitted.Version v) (Admitted.Refused d) (p, (h, l)) (inl (k, _)) = absurd (omega (arith, p, h, k))
+  admit-unique (Admitted.Version v) (Admitted.Refused d) (p, (h, l)) (inr (k, (m, _))) = absurd (omega (arith, l, m))
+  admit-unique (Admitted.Refused e) (Admitted.Version w) (inl (k, _)) (p, (h, l)) = absurd (omega (arith, p, h, k))
+  admit-unique (Admitted.Refused e) (Admitted.Version w) (inr (k, (m, _))) (p, (h, l)) = absurd (omega (arith, l, m))
+  admit-unique (Admitted.Refused e) (Admitted.Refused d) (inl (k, p)) (inl (h, q)) = ap (λ x. Admitted.Refused (refusalOf x)) (p ∙ sym q)
+  admit-unique (Admitted.Refused e) (Admitted.Refused d) (inl (k, p)) (inr (h, q)) = absurd (omega (arith, k, h))
+  admit-unique (Admitted.Refused e) (Admitted.Refused d) (inr (h, q)) (inl (k, p)) = absurd (omega (arith, k, h))
+  admit-unique (Admitted.Refused e) (Admitted.Refused d) (inr (h, (k, p))) (inr (l, (m, q))) = ap (λ x. Admitted.Refused (refusalOf x)) (p ∙ sym q)

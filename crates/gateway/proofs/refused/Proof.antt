@@ -1,0 +1,14 @@
+-- The four numbers, as they stand.
+use mathlib.Core.Path.{refl}
+use borrow.Author.Needs.{needs}
+use Rattle.gateway.proofs.refused.Statement.{statement}
+use Rattle.gateway.proofs.refused.Tie as tie
+
+cast-t2 : tie.Need-cast-t2
+cast-t2 c = search needs
+
+returns : tie.Need-returns
+returns c = refl
+
+pub refused-spec : {M : Type 1} → statement M
+refused-spec = tie.close (tie.spec cast-t2 returns)
