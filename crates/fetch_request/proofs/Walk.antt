@@ -18,7 +18,7 @@ use Rattle.rows.proofs.Chunks.{row-cell}
 use Rattle.rows.proofs.Step.{step-nothing}
 use Rattle.put.specs.declared.Form.{Form}
 use Rattle.put.specs.Put.{Put, behindLength, sizeOf}
-use Rattle.put.proofs.Even.{rows-wide, three-put}
+use Rattle.put.proofs.Even.{Even, even-end, even-left, even-more, rows-wide, three-put}
 use Rattle.put.proofs.Stored.{put-step}
 use Rattle.ranges.specs.Asked.{nameOf}
 use Rattle.fetch_request.specs.Written.{arrayBytes, bytesIf, cellsOf, countedBytes, leadBytes, limitsBytes, partitionBytes, partitionsBytes, requestBytes, restBytes, topicBytes, topicsBytes}
@@ -45,6 +45,31 @@ partition-wide r =
 pub partitions-wide : (table : List ℕ) → length (partitionsBytes table) ≡ length table / 3 * 16
 unfolding partitionsBytes
 partitions-wide table = rows-wide partitionBytes 16 partition-wide 3 table
+
+-- the first i rows stand there, and the next is stored behind them
+module _ {table d : List ℕ} (full : length d ≡ length table / 3 * 16) {i p : ℕ} {d₁ : List ℕ} (a : Even partitionBytes 16 3 table d i p d₁)
+    {m : ℕ} {e : List ℕ} (s : Capped (partitionBytes (getD (rowsOf 3 table) i [])) (midOf p (length d₁ - p) d₁) m e) where
+  row-more : 16 ≤ length d₁ - p → Even partitionBytes 16 3 table d (i + 1) (p + 16) (putMid p (length d₁ - p) d₁ e)
+  row-more h = even-more full a (lit< tt) h (partition-wide (getD (rowsOf 3 table) i [])) s
+
+  same-room : 16 ≤ length d₁ - p → length (putMid p (length d₁ - p) d₁ e) ≡ length d₁
+  same-room h = row-more h .walked .step .long ∙ sym (a .walked .step .long)
+
+  -- where there was room for two there is room for one more
+  module _ (h : 32 ≤ length d₁ - p) where
+    pub first-row : Even partitionBytes 16 3 table d (i + 1) (p + 16) (putMid p (length d₁ - p) d₁ e)
+    first-row = row-more (omega arith)
+
+    pub second-room : 16 ≤ length (putMid p (length d₁ - p) d₁ e) - (p + 16)
+    second-room = omega (arith, same-room (omega arith))
+
+    pub second-left : i + 1 < length table / 3
+    second-left = even-left full first-row (lit< tt) second-room
+
+  -- where there was none for two this is the last
+  pub last-row : 16 ≤ length d₁ - p → length d₁ - p < 32 → Capped (partitionsBytes table) d (p + 16) (putMid p (length d₁ - p) d₁ e)
+  unfolding partitionsBytes
+  last-row h l = even-end full (row-more h) (omega (arith, same-room h))
 
 pub counted-wide : (table : List ℕ) → length (countedBytes table) ≡ 4 + length table / 3 * 16
 unfolding countedBytes lengthBytes

@@ -1,11 +1,12 @@
 -- Before each turn the first i partitions stand there, up to p.
 use borrow.Author.Needs.{needs}
 use Prim.Native.Nat.{_-_}
+use native.Mathlib.Omega.{arith}
 use lib.Dec.{lit<}
 use lib.ListN.{length}
 use Rattle.fetch_request.specs.Written.{partitionBytes, partitionsBytes}
 use Rattle.put.proofs.Even.{Even, even-end, even-inside, even-left, even-more, even-start}
-use Rattle.fetch_request.proofs.Walk.{partition-wide}
+use Rattle.fetch_request.proofs.Walk.{first-row, last-row, partition-wide, second-left, second-room}
 use Rattle.fetch_request.proofs.writing.rows.Statement.{statement}
 use Rattle.fetch_request.proofs.writing.rows.Tie as tie
 
@@ -31,7 +32,7 @@ part-partition-end : tie.Need-part-partition-end Inv-loop μ-loop
 part-partition-end c = search needs
 
 partition-requires : tie.Need-partition-requires Inv-loop μ-loop
-partition-requires c κs = even-left (c .before .before .before .before .before .pre) (c .before .before .loop .inv) (lit< tt) (c .before .loop-test .taken)
+partition-requires c κs = even-left (c .before .before .before .before .before .pre) (c .before .before .loop .inv) (lit< tt) (omega (arith, (c .before .loop-test .taken)))
 
 add-p : tie.Need-add-p Inv-loop μ-loop
 add-p c = search needs
@@ -39,18 +40,60 @@ add-p c = search needs
 add-i : tie.Need-add-i Inv-loop μ-loop
 add-i c = search needs
 
+sub-partition-2 : tie.Need-sub-partition-2 Inv-loop μ-loop
+sub-partition-2 c = even-inside (c .before .before .before .before .before .before .before .before .pre) (first-row (c .before .before .before .before .before .before .before .before .pre) (c .before .before .before .before .before .loop .inv) (c .before .before .partition .ensures) (c .before .before .before .before .loop-test .taken))
+
+part-partition-start-2 : tie.Need-part-partition-start-2 Inv-loop μ-loop
+part-partition-start-2 c = search needs
+
+part-partition-end-2 : tie.Need-part-partition-end-2 Inv-loop μ-loop
+part-partition-end-2 c = search needs
+
+partition-requires-2 : tie.Need-partition-requires-2 Inv-loop μ-loop
+partition-requires-2 c κs = second-left (c .before .before .before .before .before .before .before .before .before .pre) (c .before .before .before .before .before .before .loop .inv) (c .before .before .before .partition .ensures) (c .before .before .before .before .before .loop-test .taken)
+
+add-p-2 : tie.Need-add-p-2 Inv-loop μ-loop
+add-p-2 c = search needs
+
+add-i-2 : tie.Need-add-i-2 Inv-loop μ-loop
+add-i-2 c = search needs
+
 loop-less : tie.Need-loop-less Inv-loop μ-loop
 loop-less c = search needs
 
 loop-again : tie.Need-loop-again Inv-loop μ-loop
-loop-again c = even-more (c .before .before .before .before .before .before .before .before .pre) (c .before .before .before .before .before .loop .inv) (lit< tt) (c .before .before .before .before .loop-test .taken) (partition-wide _) (c .before .before .partition .ensures)
+loop-again c = even-more (c .before .before .before .before .before .before .before .before .before .before .before .before .pre) (first-row (c .before .before .before .before .before .before .before .before .before .before .before .before .pre) (c .before .before .before .before .before .before .before .before .before .loop .inv) (c .before .before .before .before .before .before .partition .ensures) (c .before .before .before .before .before .before .before .before .loop-test .taken)) (lit< tt) (second-room (c .before .before .before .before .before .before .before .before .before .before .before .before .pre) (c .before .before .before .before .before .before .before .before .before .loop .inv) (c .before .before .before .before .before .before .partition .ensures) (c .before .before .before .before .before .before .before .before .loop-test .taken)) (partition-wide _) (c .before .before .partition2 .ensures)
+
+sub-if1 : tie.Need-sub-if1 Inv-loop μ-loop
+sub-if1 c = even-inside (c .before .before .before .before .pre) (c .before .loop .inv)
+
+sub-partition-3 : tie.Need-sub-partition-3 Inv-loop μ-loop
+sub-partition-3 c = even-inside (c .before .before .before .before .before .pre) (c .before .before .loop .inv)
+
+part-partition-start-3 : tie.Need-part-partition-start-3 Inv-loop μ-loop
+part-partition-start-3 c = search needs
+
+part-partition-end-3 : tie.Need-part-partition-end-3 Inv-loop μ-loop
+part-partition-end-3 c = search needs
+
+partition-requires-3 : tie.Need-partition-requires-3 Inv-loop μ-loop
+partition-requires-3 c κs = even-left (c .before .before .before .before .before .before .pre) (c .before .before .before .loop .inv) (lit< tt) (c .before .if1 .taken)
+
+add-result : tie.Need-add-result Inv-loop μ-loop
+add-result c = search needs
 
 same-length : tie.Need-same-length Inv-loop μ-loop
 same-length c = search needs
 
 returns : tie.Need-returns Inv-loop μ-loop
+returns c = last-row (c .before .before .before .before .before .before .before .before .before .pre) (c .before .before .before .before .before .before .loop .inv) (c .before .before .partition3 .ensures) (c .before .before .before .before .if1 .taken) (c .before .before .before .before .before .loop-test .left)
+
+same-length-2 : tie.Need-same-length-2 Inv-loop μ-loop
+same-length-2 c = search needs
+
+returns-2 : tie.Need-returns-2 Inv-loop μ-loop
 unfolding partitionsBytes
-returns c = even-end (c .before .before .before .before .pre) (c .before .loop .inv) (c .loop-test .left)
+returns-2 c = even-end (c .before .before .before .before .before .pre) (c .before .before .loop .inv) (c .if1 .left)
 
 pub rows-spec : {M : Type 1} → statement M
 rows-spec =
@@ -66,7 +109,21 @@ rows-spec =
     partition-requires
     add-p
     add-i
+    sub-partition-2
+    part-partition-start-2
+    part-partition-end-2
+    partition-requires-2
+    add-p-2
+    add-i-2
     loop-less
     loop-again
+    sub-if1
+    sub-partition-3
+    part-partition-start-3
+    part-partition-end-3
+    partition-requires-3
+    add-result
     same-length
-    returns)
+    returns
+    same-length-2
+    returns-2)
