@@ -1,8 +1,9 @@
 // What is refused of a Fetch request before a byte is written: tables that do not add up, names outside the lent bytes,
 // and then in field order numbers too wide, names too long and names that are not text.
 ghost use mathlib.Core.Path.{_≡_};
-ghost use lib.ListN.{length};
-ghost use Prim.Native.Nat.{_<_, _^_, _≤_};
+ghost use mathlib.Core.List.{[]};
+ghost use lib.ListN.{getD, length};
+ghost use Prim.Native.Nat.{_/_, _<_, _^_, _≤_};
 ghost use Rattle.layout.specs.Tables.{all, rowsOf, sum};
 ghost use Rattle.fetch_request.specs.Judged.{bothHold, bothSmall, largestHolds, leadHolds, levelHolds, limitsHold, partitionSmall, partitionsHold, requestFault, requestGood, topicFault, topicsFault};
 ghost use Rattle.fetch_request.specs.Written.{cellsOf};
@@ -92,16 +93,32 @@ fn both_small(m: u64, n: u64) -> bool
     n < 2147483648
 }
 
+fn is_small(partitions: &[u64], i: usize) -> bool
+    requires { ⌜ i < length (now partitions) / 3 ⌝ }
+    ensures { λ r. ⌜ r ≡ partitionSmall (getD (rowsOf 3 (now (partitions .entry))) i []) ⌝ }
+{
+    both_small(partitions[i * 3], partitions[i * 3 + 2])
+}
+
+// Two rows a turn, the numbers of both loaded before one is judged, so that one test does for all four.
 fn all_small(partitions: &[u64]) -> bool
     ensures { λ r. ⌜ r ≡ all partitionSmall (rowsOf 3 (now (partitions .entry))) ⌝ }
 {
     let n = partitions.len() / 3;
-    let mut i: usize = 0;
-    while i < n {
-        if !both_small(partitions[i * 3], partitions[i * 3 + 2]) {
+    let mut turn: usize = 0;
+    while turn < n / 2 {
+        let a = is_small(partitions, turn * 2);
+        let b = is_small(partitions, turn * 2 + 1);
+        if !a {
             return false;
         }
-        i = i + 1;
+        if !b {
+            return false;
+        }
+        turn = turn + 1;
+    }
+    if turn * 2 < n {
+        return is_small(partitions, turn * 2);
     }
     true
 }

@@ -1,60 +1,66 @@
--- Before each turn the first i rows have no number below zero, and those left decide.
+-- Before each turn the rows of the turns before have no number below zero, and those left decide.
 use borrow.Author.Needs.{needs}
 use borrow.Author.Tests.{not-false, not-true}
-use Prim.Native.Nat.{_-_}
-use Rattle.rows.proofs.Judged.{Judged, judged-end, judged-more, judged-start, judged-stop}
+use Prim.Native.Nat.{_*_, _-_, _/_}
+use Rattle.rows.proofs.Judged.{Judged, judged-end, judged-start}
 use Rattle.fetch_request.specs.Judged.{partitionSmall}
-use Rattle.fetch_request.proofs.Fits.{small-told}
+use Rattle.fetch_request.proofs.Fits.{odd-last, pair-first, pair-more, pair-second}
 use Rattle.fetch_request.proofs.judge.all_small.Statement.{statement}
 use Rattle.fetch_request.proofs.judge.all_small.Tie as tie
 
 abbrev Inv-loop : tie.InvT-loop
-Inv-loop partitions n i₀ i = Judged partitionSmall 3 partitions i
+Inv-loop partitions n turn₀ turn = Judged partitionSmall 3 partitions (turn * 2)
 
 abbrev μ-loop : tie.MeasureT-loop
-μ-loop partitions n i₀ i = n - i
+μ-loop partitions n turn₀ turn = n / 2 - turn
 
 loop-holds : tie.Need-loop-holds Inv-loop μ-loop
 loop-holds c = judged-start _ _ _
 
-mul-both-small : tie.Need-mul-both-small Inv-loop μ-loop
-mul-both-small c = search needs
+mul-is-small : tie.Need-mul-is-small Inv-loop μ-loop
+mul-is-small c = search needs
 
-mul-both-small-2 : tie.Need-mul-both-small-2 Inv-loop μ-loop
-mul-both-small-2 c = search needs
+is-small-requires : tie.Need-is-small-requires Inv-loop μ-loop
+is-small-requires c κs = search needs
 
-shared-slice-read-both-small : tie.Need-shared-slice-read-both-small Inv-loop μ-loop
-shared-slice-read-both-small c = search needs
+mul-is-small-2 : tie.Need-mul-is-small-2 Inv-loop μ-loop
+mul-is-small-2 c = search needs
 
-mul-both-small-3 : tie.Need-mul-both-small-3 Inv-loop μ-loop
-mul-both-small-3 c = search needs
+add-is-small : tie.Need-add-is-small Inv-loop μ-loop
+add-is-small c = search needs
 
-add-both-small : tie.Need-add-both-small Inv-loop μ-loop
-add-both-small c = search needs
-
-mul-both-small-4 : tie.Need-mul-both-small-4 Inv-loop μ-loop
-mul-both-small-4 c = search needs
-
-shared-slice-read-both-small-2 : tie.Need-shared-slice-read-both-small-2 Inv-loop μ-loop
-shared-slice-read-both-small-2 c = search needs
-
-both-small-requires : tie.Need-both-small-requires Inv-loop μ-loop
-both-small-requires c κs = search needs
+is-small-requires-2 : tie.Need-is-small-requires-2 Inv-loop μ-loop
+is-small-requires-2 c κs = search needs
 
 returns : tie.Need-returns Inv-loop μ-loop
-returns c = judged-stop _ _ _ _ (c .before .before .before .before .before .loop .inv) (c .before .before .before .before .loop-test .taken) _ (small-told _ _ (c .before .before .before .before .loop-test .taken) _ (c .before .both-small .ensures)) (not-true _ (c .if1 .taken))
+returns c = pair-first (c .before .before .before .before .loop .inv) (c .before .before .is-small .ensures) (c .before .before .before .loop-test .taken) (not-true _ (c .if1 .taken))
 
-add-i : tie.Need-add-i Inv-loop μ-loop
-add-i c = search needs
+returns-2 : tie.Need-returns-2 Inv-loop μ-loop
+returns-2 c = pair-second (c .before .before .before .before .before .loop .inv) (c .before .before .before .is-small .ensures) (c .before .before .before .before .loop-test .taken) (not-false _ (c .before .if1 .left)) (c .before .before .is-small2 .ensures) (not-true _ (c .if2 .taken))
+
+add-turn : tie.Need-add-turn Inv-loop μ-loop
+add-turn c = search needs
 
 loop-less : tie.Need-loop-less Inv-loop μ-loop
 loop-less c = search needs
 
 loop-again : tie.Need-loop-again Inv-loop μ-loop
-loop-again c = judged-more _ _ _ _ (c .before .before .before .before .before .loop .inv) (c .before .before .before .before .loop-test .taken) _ (small-told _ _ (c .before .before .before .before .loop-test .taken) _ (c .before .both-small .ensures)) (not-false _ (c .if1 .left))
+loop-again c = pair-more (c .before .before .before .before .before .loop .inv) (c .before .before .before .is-small .ensures) (c .before .before .before .before .loop-test .taken) (not-false _ (c .before .if1 .left)) (c .before .before .is-small2 .ensures) (not-false _ (c .if2 .left))
 
-returns-2 : tie.Need-returns-2 Inv-loop μ-loop
-returns-2 c = judged-end _ _ _ _ (c .before .loop .inv) (c .loop-test .left)
+mul-if3 : tie.Need-mul-if3 Inv-loop μ-loop
+mul-if3 c = search needs
+
+mul-is-small-3 : tie.Need-mul-is-small-3 Inv-loop μ-loop
+mul-is-small-3 c = search needs
+
+is-small-requires-3 : tie.Need-is-small-requires-3 Inv-loop μ-loop
+is-small-requires-3 c κs = search needs
+
+returns-3 : tie.Need-returns-3 Inv-loop μ-loop
+returns-3 c = odd-last (c .before .before .before .loop .inv) (c .is-small3 .ensures) (c .before .before .loop-test .left) (c .before .if3 .taken)
+
+returns-4 : tie.Need-returns-4 Inv-loop μ-loop
+returns-4 c = judged-end _ _ _ _ (c .before .before .loop .inv) (c .if3 .left)
 
 pub all-small-spec : {M : Type 1} → statement M
 all-small-spec =
@@ -63,16 +69,18 @@ all-small-spec =
     Inv-loop
     μ-loop
     loop-holds
-    mul-both-small
-    mul-both-small-2
-    shared-slice-read-both-small
-    mul-both-small-3
-    add-both-small
-    mul-both-small-4
-    shared-slice-read-both-small-2
-    both-small-requires
+    mul-is-small
+    is-small-requires
+    mul-is-small-2
+    add-is-small
+    is-small-requires-2
     returns
-    add-i
+    returns-2
+    add-turn
     loop-less
     loop-again
-    returns-2)
+    mul-if3
+    mul-is-small-3
+    is-small-requires-3
+    returns-3
+    returns-4)
