@@ -1,7 +1,7 @@
 -- Rows that all have k bytes: three numbers at their places, row behind row in an output of just their size, and such an output as the front of another.
 use mathlib.Core.List.{List, [], _++_, _∷_, append-assoc, append-nil}
-use mathlib.Core.Path.{_∙_, _≡_, ap, ap₂, refl, sym}
-use Prim.Native.Nat.{_*_, _+_, _-_, _/_, _<_, _≤_, min, suc, ℕ}
+use mathlib.Core.Path.{_∙_, _≡_, ap, refl, sym}
+use Prim.Native.Nat.{_*_, _+_, _-_, _/_, _<_, _≤_, suc, ℕ}
 use native.Mathlib.Nat.{mul-le-mul-right}
 use native.Mathlib.Decide.{decLt}
 use native.Mathlib.Omega.{arith}

@@ -136,7 +136,7 @@ fn eight(out: &mut [u8], content: &[u8])
 }
 
 // Eight to sixteen bytes: the first eight and the last eight.
-fn middling(out: &mut [u8], content: &[u8]) -> usize
+fn up_to_sixteen(out: &mut [u8], content: &[u8]) -> usize
     requires { ⌜ (8 ≤ length (now content)) × (length (now content) ≤ 16) ⌝ }
     ensures { λ r. ⌜ Put (now (content .entry)) (now (out .entry)) r (now (out .exit)) ⌝ }
 {
@@ -173,7 +173,7 @@ pub fn raw(out: &mut [u8], content: &[u8]) -> usize
         return byte_by_byte(out, content);
     }
     if content.len() <= 16 {
-        return middling(out, content);
+        return up_to_sixteen(out, content);
     }
     by_eights(out, content)
 }

@@ -3,8 +3,8 @@ use mathlib.Core.Path.{refl}
 use Rattle.put.proofs.Parts.{last-part}
 use Rattle.put.proofs.Stored.{put-none}
 use borrow.Author.Needs.{needs}
-use Rattle.put.proofs.middling.Statement.{statement}
-use Rattle.put.proofs.middling.Tie as tie
+use Rattle.put.proofs.up_to_sixteen.Statement.{statement}
+use Rattle.put.proofs.up_to_sixteen.Tie as tie
 
 eight-requires : tie.Need-eight-requires
 eight-requires c κs = search needs
@@ -45,8 +45,8 @@ returns c = last-part 8 _ _ (c .before .before .before .before .before .before .
 returns-2 : tie.Need-returns-2
 returns-2 c = put-none _ _ _ refl (c .if1 .left)
 
-pub middling-spec : {M : Type 1} → statement M
-middling-spec =
+pub up-to-sixteen-spec : {M : Type 1} → statement M
+up-to-sixteen-spec =
     tie.close
     (tie.spec
     eight-requires
