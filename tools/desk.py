@@ -234,10 +234,12 @@ def refused(what, body, words, json_wanted, more=()):
     return 1
 
 
-def other_layouts(body, version):
+def other_layouts(body, version, words):
     """Of the three layouts at most one accepts a body: which, if it is not the one asked for."""
+    if version not in range(4) or int(words[1]) in PLACELESS:
+        return []
     for other, name in ((0, "0"), (1, "1 or 2"), (3, "3")):
-        if other != max(version, 0) and not (other == 1 and version == 2) and ask(WHOLE, other, body)[0][0] == "ok":
+        if other != version and (other, version) != (1, 2) and ask(WHOLE, other, body)[0][0] == "ok":
             return [f"Read whole, it is a body of version {name}: was the broker swapped, or the request sent at another version?"]
     return ["Read whole, it is a body of no version: was it cut, or is it another message?"]
 
@@ -256,8 +258,8 @@ def read(message, version, body, json_wanted, whole=False):
     what = f"{message} version {version}" + (", read whole" if whole else "")
     words, tables = ask(question, version, body)
     if words[0] != "ok":
-        odd = question in (1, WHOLE) and 0 <= version <= 3 and int(words[1]) not in PLACELESS
-        return refused(what, body, words, json_wanted, other_layouts(body, version) if odd and not json_wanted else ())
+        hint = question in (1, WHOLE) and not json_wanted
+        return refused(what, body, words, json_wanted, other_layouts(body, version, words) if hint else ())
     own = words[2:]
     said = {1: response, 3: request, 5: metadata}.get(NAMES[message], lambda *given: fetch(version, *given))(body, own, tables)
     return accepted(what, body, int(words[1]), said, json_wanted)
@@ -267,7 +269,7 @@ def agree(version, body, json_wanted):
     what = f"api-versions version {version}, read whole"
     words, tables = ask(AGREE, version, body)
     if words[0] != "ok":
-        return refused(what, body, words, json_wanted, [] if json_wanted else other_layouts(body, version))
+        return refused(what, body, words, json_wanted, () if json_wanted else other_layouts(body, version, words))
     return accepted(what, body, int(words[1]), row(agreed=agreed(tables)), json_wanted)
 
 
