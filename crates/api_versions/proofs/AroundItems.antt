@@ -17,10 +17,10 @@ use Rattle.rows.specs.Store.{State, Tab, add, own, put, store, tab}
 use Rattle.rows.specs.Walk.{Places, Runs, on, rowFrom, walk}
 use Rattle.rows.proofs.Arrays.{items-no, items-no-count, items-took}
 use Rattle.rows.proofs.Front.{then-give}
-use Rattle.rows.proofs.Steps.{give-took, then-no, then-took}
+use Rattle.rows.proofs.Chains.{give-took, then-no, then-took}
 use Rattle.tags.specs.Answers as Tags
-use Rattle.versioned.specs.Cells.{ofVersion, versionedCells}
-use Rattle.versioned.specs.declared.Version.{Version}
+use Rattle.versioned.specs.Cells.{ofVersionedAt, versionedCells}
+use Rattle.versioned.specs.declared.VersionedAt.{VersionedAt}
 use Rattle.versioned.specs.declared.Versioned.{Versioned}
 use Rattle.tags.specs.declared.Walked.{Walked}
 use Rattle.api_versions_items.specs.Shapes.{keyShape, tagsIf}
@@ -49,22 +49,22 @@ around : Tab → Places
 unfolding add
 around x = record { h = λ y z. y ∷ x ∷ z ∷ []; o = 0; t = 2; row-law = λ y z ds. refl; items-law = λ y z ds. refl }
 
-module _ (t f : Bool) (s : List ℕ) (p : ℕ) (ts : List ℕ) (m : ℕ) (r : Version) (h : ofVersion r ≡ on (throttle t) s p) where
+module _ (t f : Bool) (s : List ℕ) (p : ℕ) (ts : List ℕ) (m : ℕ) (r : VersionedAt) (h : ofVersionedAt r ≡ on (throttle t) s p) where
   on-tail : (e : Before) → on (then (throttle t) (λ cs. walk (e .whole) (tagsIf f 2) 0 (add 0 cs (behindItems ts m e)))) s p ≡ on (walk (e .whole) (tailShape t f) 0 (behindItems ts m e)) s p
   unfolding on
   on-tail e = ap (more p) (tail-is (e .whole) t f (behindItems ts m e) p (drop p s))
 
-  pub tail-no : (c : Code.Refusal) → r ≡ Version.Refused c → Runs (λ e. walk (e .whole) (tailShape t f) 0) s p (behindItems ts m) (λ e. bad (ofRefusal c))
-  tail-no c d = record { law = λ e. then-no (throttle t) _ s p (ap ofVersion (sym d) ∙ h) ∙ on-tail e }
+  pub tail-no : (c : Code.Refusal) → r ≡ VersionedAt.Refused c → Runs (λ e. walk (e .whole) (tailShape t f) 0) s p (behindItems ts m) (λ e. bad (ofRefusal c))
+  tail-no c d = record { law = λ e. then-no (throttle t) _ s p (ap ofVersionedAt (sym d) ∙ h) ∙ on-tail e }
 
-  module _ (x : Versioned) (n : ℕ) (d : r ≡ Version.Took x n) (ts′ : List ℕ) (z : Walked) (l : Runs (λ e. walk (e .0) (tagsIf f (e .1 .t)) (e .1 .o)) s n (Tags.inTables ts m) (Tags.inTablesIs ts′ z)) where
+  module _ (x : Versioned) (n : ℕ) (d : r ≡ VersionedAt.Took x n) (ts′ : List ℕ) (z : Walked) (l : Runs (λ e. walk (e .0) (tagsIf f (e .1 .t)) (e .1 .o)) s n (Tags.inTables ts m) (Tags.inTablesIs ts′ z)) where
     -- the own row once the throttle time is there
     abbrev timed : Before → Tab
     timed e = store (own (e .error ∷ e .count ∷ [])) (versionedCells x)
 
     from-throttle : (e : Before) → Tags.inTablesIs ts′ z (e .whole, around (e .items), timed e) ≡ on (walk (e .whole) (tailShape t f) 0 (behindItems ts m e)) s p
     unfolding around add
-    from-throttle e = then-took (throttle t) _ s p (ap ofVersion (sym d) ∙ h) (l .law (e .whole, around (e .items), timed e)) ∙ on-tail e
+    from-throttle e = then-took (throttle t) _ s p (ap ofVersionedAt (sym d) ∙ h) (l .law (e .whole, around (e .items), timed e)) ∙ on-tail e
 
     pub tail-no-tags : (c : Code.Refusal) → z ≡ Walked.Refused c → Runs (λ e. walk (e .whole) (tailShape t f) 0) s p (behindItems ts m) (λ e. bad (ofRefusal c))
     tail-no-tags c j = record { law = λ e. ap (λ (y : Walked). Tags.inTablesIs ts′ y (e .whole, around (e .items), timed e)) (sym j) ∙ from-throttle e }

@@ -29,8 +29,8 @@ use primitives::at;
 use primitives::no_room;
 use primitives::version_of;
 use tags::Walked;
-use versioned::Version;
 use versioned::Versioned;
+use versioned::VersionedAt;
 use versioned::int32_if;
 
 // What stands behind the items, the place behind it, and the mark of the tags' table.
@@ -69,7 +69,7 @@ fn tail_at(
     ensures { λ r. ⌜ Runs (λ e. walk (e .whole) (tailShape throttled flexible) 0) (now (s .entry)) p (behindItems (now (tags .entry)) mark) (ofTail (now (tags .exit)) r) ⌝ }
 {
     match int32_if(s, p, throttled) {
-        Version::Took {
+        VersionedAt::Took {
             value: throttle,
             next,
         } => match tags_if(s, next, flexible, tags, mark) {
@@ -85,7 +85,7 @@ fn tail_at(
             },
             Walked::Refused(e) => Tail::Refused(e),
         },
-        Version::Refused(e) => Tail::Refused(e),
+        VersionedAt::Refused(e) => Tail::Refused(e),
     }
 }
 

@@ -53,9 +53,6 @@ cells-most false c = omega arith
 -- ---- one behind the other, as calls with `&mut out[at..]` leave it
 
 module _ {d d₁ e : List ℕ} {n m : ℕ} (at : ℕ) (h : at ≡ min n (length d₁)) (r : ℕ) (k : cap r ≡ cap (n + m)) where
-  pub two-put : (x y : List ℕ) → Put x d n d₁ → Put y (midOf at (length d₁ - at) d₁) m e → Capped (x ++ y) d r (putMid at (length d₁ - at) d₁ e)
-  two-put x y p q = capped-behind (capped (put-step p)) at h (capped (put-step q)) r k
-
   pub key-put : (a b c : ℕ) → Put (bytes 2 a) d n d₁ → Capped (bytes 2 b ++ bytes 2 c) (midOf at (length d₁ - at) d₁) m e → Capped (keyBytes a b c) d r (putMid at (length d₁ - at) d₁ e)
   unfolding keyBytes
   key-put a b c p q = capped-behind (capped (put-step p)) at h q r k

@@ -12,8 +12,9 @@ use Rattle.layout.specs.Primitives.{holds, w32, w64}
 use Rattle.layout.specs.Tables.{all, chunks, count, rowsOf, slice, sum, times}
 use Rattle.layout.specs.Write.{basicFault, fault, firstOf, or, sizedFault, unless}
 use Rattle.layout.proofs.Tests.{le-true, lt-false, lt-true, of-ge}
-use Rattle.rows.proofs.Chunks.{chunks-many, rows-first, rows-part}
+use Rattle.rows.proofs.Chunks.{chunks-many, rows-part}
 use Rattle.rows.proofs.Faults.{or-none, or-unless}
+use Rattle.rows.proofs.Taking.{Enough, enough-here, enough-more, enough-start}
 use Rattle.rows.proofs.Turns.{or-first, or-second}
 use Rattle.ranges.specs.Asked.{nameOf, stringFault}
 use Rattle.ranges.proofs.Cells.{Cells, cells-drop}
@@ -103,13 +104,12 @@ module _ (lent topics partitions : List ℕ) where
 
 pub record Clearing (lent topics partitions left free : List ℕ) : Type 0 where
   pub same : topicsFault lent left free ≡ topicsFault lent topics partitions
-  pub short : length free ≤ length partitions
-  pub enough : sum cellsOf (rowsOf 3 left) ≤ length free
+  pub room : Enough 3 cellsOf partitions left free
   pub cells : Cells free
 
 module _ (lent topics partitions : List ℕ) where
   pub clearing-start : sum cellsOf (rowsOf 3 topics) ≤ length partitions → Cells partitions → Clearing lent topics partitions topics partitions
-  clearing-start h k = record { same = refl; short = omega arith; enough = h; cells = k }
+  clearing-start h k = record { same = refl; room = enough-start 3 cellsOf partitions topics h; cells = k }
 
   module _ {left free : List ℕ} (a : Clearing lent topics partitions left free) where
     pub clearing-end : length left < 3 → 0 ≡ topicsFault lent topics partitions
@@ -120,12 +120,8 @@ module _ (lent topics partitions : List ℕ) where
         none = omega arith
 
     module _ (h : 3 ≤ length left) where
-      first-told : sum cellsOf (rowsOf 3 left) ≡ cellsOf left + sum cellsOf (rowsOf 3 (drop 3 left))
-      unfolding sum
-      first-told = ap (sum cellsOf) (rows-first 3 left (lit< tt) h) ∙ ap (λ (c : ℕ). c + sum cellsOf (rowsOf 3 (drop 3 left))) (cells-first left)
-
       pub clearing-enough : cellsOf left ≤ length free
-      clearing-enough = omega (arith, first-told, a .enough)
+      clearing-enough = enough-here 3 cellsOf partitions (lit< tt) cells-first (a .room) h
 
       -- the next topic, and those behind it
       split : topicsFault lent left free ≡ or (fault topicShape (topicMeant lent left free)) (topicsFault lent (drop 3 left) (drop (cellsOf left) free))
@@ -148,7 +144,6 @@ module _ (lent topics partitions : List ℕ) where
             let v : take (length free - k) (drop k free) ≡ drop (cellsOf left) free = take-all (length free - k) (drop k free) (omega (arith, length-drop k free)) ∙ ap (λ (x : ℕ). drop x free) q in
             record {
               same = ap₂ (topicsFault lent) u v ∙ or-second (fault topicShape (topicMeant lent left free)) _ e is-next z ∙ sym split ∙ a .same;
-              short = omega (arith, a .short, ap length v, length-drop (cellsOf left) free);
-              enough = rw (u, v) (omega (arith, first-told, a .enough, length-drop (cellsOf left) free));
+              room = rw u (enough-more 3 cellsOf partitions (lit< tt) cells-first (a .room) h k (omega (arith, q)));
               cells = rw v (cells-drop (cellsOf left) free (a .cells));
             }

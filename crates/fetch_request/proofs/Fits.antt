@@ -13,7 +13,6 @@ use Rattle.layout.specs.Write.{or, unless}
 use Rattle.layout.proofs.Proper.{both}
 use Rattle.layout.proofs.Tests.{lt-false, lt-true}
 use Rattle.rows.proofs.Chunks.{row-cell}
-use Rattle.rows.proofs.Judged.{Judged, judged-end, judged-more, judged-stop}
 use Rattle.writers.specs.Answers.{within}
 use Rattle.fetch_request.specs.Judged.{bothHold, bothSmall, largestHolds, leadFault, leadHolds, levelHolds, limitsFault, limitsHold, partitionHolds, partitionSmall, partitionsHold, requestFault, requestGood, topicsFault}
 
@@ -59,32 +58,6 @@ module _ (partitions : List ℕ) (i : ℕ) (h : i < length partitions / 3) (b : 
   pub small-told : b ≡ bothSmall (getD partitions (i * 3) 0) (getD partitions (i * 3 + 2) 0) → b ≡ partitionSmall (getD (rowsOf 3 partitions) i [])
   unfolding partitionSmall
   small-told e = told bothSmall e
-
--- two rows a turn: those before have no number below zero, and these decide
-module _ {partitions : List ℕ} {t : ℕ} (g : Judged partitionSmall 3 partitions (t * 2)) {a : Bool} (e : a ≡ partitionSmall (getD (rowsOf 3 partitions) (t * 2) [])) where
-  module _ (h : t < length partitions / 3 / 2) where
-    pub pair-first : a ≡ false → false ≡ all partitionSmall (rowsOf 3 partitions)
-    pair-first x = judged-stop partitionSmall 3 partitions (t * 2) g (omega arith) a e x
-
-    module _ (x : a ≡ true) {b : Bool} (f : b ≡ partitionSmall (getD (rowsOf 3 partitions) (t * 2 + 1) [])) where
-      one : Judged partitionSmall 3 partitions (t * 2 + 1)
-      one = judged-more partitionSmall 3 partitions (t * 2) g (omega arith) a e x
-
-      pub pair-second : b ≡ false → false ≡ all partitionSmall (rowsOf 3 partitions)
-      pair-second y = judged-stop partitionSmall 3 partitions (t * 2 + 1) one (omega arith) b f y
-
-      pub pair-more : b ≡ true → Judged partitionSmall 3 partitions ((t + 1) * 2)
-      pair-more y =
-          let n : t * 2 + 1 + 1 ≡ (t + 1) * 2 = omega arith in
-          rw n at (judged-more partitionSmall 3 partitions (t * 2 + 1) one (omega arith) b f y)
-
-  -- the last, where their number is odd
-  pub odd-last : length partitions / 3 / 2 ≤ t → t * 2 < length partitions / 3 → a ≡ all partitionSmall (rowsOf 3 partitions)
-  odd-last l h = last a e
-    where
-      last : (b : Bool) → b ≡ partitionSmall (getD (rowsOf 3 partitions) (t * 2) []) → b ≡ all partitionSmall (rowsOf 3 partitions)
-      last true f = judged-end partitionSmall 3 partitions (t * 2 + 1) (judged-more partitionSmall 3 partitions (t * 2) g h true f refl) (omega arith)
-      last false f = judged-stop partitionSmall 3 partitions (t * 2) g h false f refl
 
 -- two tests whether a number is small, in turn
 module _ (m n : ℕ) where

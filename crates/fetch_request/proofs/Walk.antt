@@ -110,9 +110,6 @@ module _ (lent topics partitions x : List ℕ) (j : ℕ) (i : j ≡ cellsOf topi
 -- ---- one behind the other, as calls with `&mut out[at..]` leave it
 
 module _ {d d₁ e : List ℕ} {n m : ℕ} (at : ℕ) (h : at ≡ min n (length d₁)) (r : ℕ) (k : cap r ≡ cap (n + m)) where
-  pub two-put : (x y : List ℕ) → Put x d n d₁ → Put y (midOf at (length d₁ - at) d₁) m e → Capped (x ++ y) d r (putMid at (length d₁ - at) d₁ e)
-  two-put x y p q = capped-behind (capped (put-step p)) at h (capped (put-step q)) r k
-
   pub counted-put : (table : List ℕ) → Put (lengthBytes (sizeOf Form.Int32) (length table / 3)) d n d₁ → Capped (partitionsBytes table) (midOf at (length d₁ - at) d₁) m e → Capped (countedBytes table) d r (putMid at (length d₁ - at) d₁ e)
   unfolding countedBytes
   counted-put table p q = capped-behind (capped (put-step p)) at h q r k

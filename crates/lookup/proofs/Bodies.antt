@@ -25,7 +25,7 @@ use Rattle.layout.proofs.Proper.{metadata-response, owed, width-same, widthAt}
 use Rattle.rows.specs.Walk.{itemCount, on, rowFrom}
 use Rattle.rows.proofs.Flat.{Flat}
 use Rattle.rows.proofs.RowCells.{cells-absent, cells-end, cells-took, no-row-of, row-of}
-use Rattle.rows.proofs.Steps.{Both, both, give-took, same-end, same-value, then-took}
+use Rattle.rows.proofs.Chains.{Both, both, give-took, same-end, same-value, then-took}
 use Rattle.places.specs.Moved.{arrayItems}
 use Rattle.versioned.specs.Fronts.{frontOf}
 use Rattle.versioned.proofs.Fronts.{count-took}

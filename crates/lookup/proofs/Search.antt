@@ -13,7 +13,7 @@ use Rattle.layout.specs.Tables.{firstRow}
 use Rattle.layout.specs.Lookup.{Host, found, hostOf, unknown}
 use Rattle.layout.proofs.Local.{not-ok}
 use Rattle.rows.specs.Walk.{on, rowFrom}
-use Rattle.rows.proofs.Steps.{Both, both, give-took, same-end, same-value, then-no, then-took}
+use Rattle.rows.proofs.Chains.{Both, both, give-took, same-end, same-value, then-no, then-took}
 use Rattle.versioned.specs.Fronts.{frontOf}
 use Rattle.brokers.specs.Brokers.{brokerShape}
 use Rattle.lookup.specs.Hosts.{Seeks, brokersOf}

@@ -19,10 +19,10 @@ use Rattle.rows.proofs.Close.{store-own}
 use Rattle.rows.proofs.Flat.{Flat}
 use Rattle.rows.proofs.Front.{onto, stands-flat, stands-onto}
 use Rattle.rows.proofs.RowCells.{cells-end, cells-if-no, cells-if-took, row-no, row-took}
-use Rattle.versioned.specs.Cells.{fieldCells, ofText, ofVersion, versionedCells}
+use Rattle.versioned.specs.Cells.{fieldCells, ofText, ofVersionedAt, versionedCells}
 use Rattle.versioned.specs.Fronts.{frontOf, ofFront}
 use Rattle.versioned.specs.declared.Front.{Front}
-use Rattle.versioned.specs.declared.Version.{Version}
+use Rattle.versioned.specs.declared.VersionedAt.{VersionedAt}
 use Rattle.versioned.specs.declared.Versioned.{Versioned}
 use Rattle.versioned.proofs.Fronts.{body-no-front, body-no-items, body-took-items}
 use Rattle.brokers.specs.Brokers.{atBrokers, brokerShape, filledIs}
@@ -58,16 +58,16 @@ module _ (s : List ℕ) (p v : ℕ) (r : Nullable) (h : ofText r ≡ on (rowFrom
   unfolding middleShape
   no-cluster c d = cells-if-no (leb 2 v) cluster (stands (leb 1 v) number32 end) [] s p (ofRefusal c) (ap ofText (sym d) ∙ h)
 
-  module _ (f : Field) (q : ℕ) (d : r ≡ Nullable.Took f q) (z : Version) (g : ofVersion z ≡ on (rowFrom [] (stands (leb 1 v) number32 end)) s q) where
+  module _ (f : Field) (q : ℕ) (d : r ≡ Nullable.Took f q) (z : VersionedAt) (g : ofVersionedAt z ≡ on (rowFrom [] (stands (leb 1 v) number32 end)) s q) where
     behind-cluster : (o : Res (List ℕ)) → o ≡ on (rowFrom (fieldCells f) (stands (leb 1 v) number32 end)) s q → o ≡ on (rowFrom [] (middleShape v)) s p
     unfolding middleShape
     behind-cluster o e = cells-if-took (leb 2 v) cluster (stands (leb 1 v) number32 end) [] s p (fieldCells f) q (ap ofText (sym d) ∙ h) o e
 
-    pub no-controller : (c : Code.Refusal) → z ≡ Version.Refused c → bad (ofRefusal c) ≡ on (rowFrom [] (middleShape v)) s p
-    no-controller c e = behind-cluster _ (cells-if-no (leb 1 v) number32 end (fieldCells f) s q (ofRefusal c) (ap ofVersion (sym e) ∙ g))
+    pub no-controller : (c : Code.Refusal) → z ≡ VersionedAt.Refused c → bad (ofRefusal c) ≡ on (rowFrom [] (middleShape v)) s p
+    no-controller c e = behind-cluster _ (cells-if-no (leb 1 v) number32 end (fieldCells f) s q (ofRefusal c) (ap ofVersionedAt (sym e) ∙ g))
 
-    pub middle-took : (x : Versioned) (n : ℕ) → z ≡ Version.Took x n → ok (fieldCells f ++ versionedCells x) n ≡ on (rowFrom [] (middleShape v)) s p
-    middle-took x n e = behind-cluster _ (cells-if-took (leb 1 v) number32 end (fieldCells f) s q (versionedCells x) n (ap ofVersion (sym e) ∙ g) _ (cells-end (fieldCells f ++ versionedCells x) s n))
+    pub middle-took : (x : Versioned) (n : ℕ) → z ≡ VersionedAt.Took x n → ok (fieldCells f ++ versionedCells x) n ≡ on (rowFrom [] (middleShape v)) s p
+    middle-took x n e = behind-cluster _ (cells-if-took (leb 1 v) number32 end (fieldCells f) s q (versionedCells x) n (ap ofVersionedAt (sym e) ∙ g) _ (cells-end (fieldCells f ++ versionedCells x) s n))
 
 -- ---- behind the brokers
 

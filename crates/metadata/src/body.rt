@@ -17,8 +17,8 @@ use topics::Marked;
 use topics::Marks;
 use topics::topics_in;
 use versioned::Front;
-use versioned::Version;
 use versioned::Versioned;
+use versioned::VersionedAt;
 use versioned::front_of;
 use versioned::int32_if;
 use versioned::nullable_string_if;
@@ -65,7 +65,7 @@ fn middle_at(s: &[u8], p: usize, v: u64) -> Middle
             field: cluster,
             used: q,
         } => match int32_if(s, q, 1 <= v) {
-            Version::Took {
+            VersionedAt::Took {
                 value: controller,
                 next,
             } => Middle::Took {
@@ -73,7 +73,7 @@ fn middle_at(s: &[u8], p: usize, v: u64) -> Middle
                 controller,
                 next,
             },
-            Version::Refused(e) => Middle::Refused(e),
+            VersionedAt::Refused(e) => Middle::Refused(e),
         },
         Nullable::Refused(e) => Middle::Refused(e),
     }

@@ -2,16 +2,18 @@
 use mathlib.Core.Bool.{Bool, false, true}
 use mathlib.Core.List.{List, _++_, _∷_}
 use mathlib.Core.Path.{_∙_, _≡_, ap, refl, subst, sym}
-use Prim.Native.Nat.{_%_, _-_, _/_, _<_, _≤_, suc, zero, ℕ}
+use Prim.Native.Nat.{_%_, _+_, _-_, _/_, _<_, _≤_, min, suc, zero, ℕ}
 use native.Mathlib.Decide.{decLt}
 use native.Mathlib.Omega.{arith}
 use lib.ListN.{drop, length, length-append, length-drop, length-set, set, take}
 use lib.Seq.{append-snoc, drop-at, length-take-le, set-split}
+use borrow.Rule.Slice.PartMut.{midOf, putMid}
 use mir.Val.{boolByte}
 use Rattle.layout.specs.Primitives.{bytes, flagBytes}
 use Rattle.layout.proofs.Back.{length-bytes}
 use Rattle.layout.proofs.Tests.{le-false, le-true}
-use Rattle.rows.specs.Step.{Step}
+use Rattle.rows.specs.Step.{Capped, Step, cap}
+use Rattle.rows.proofs.Capped.{capped, capped-behind}
 use Rattle.put.specs.Put.{Put}
 
 module _ (bs d : List ℕ) (r : ℕ) (e : r ≡ length bs) where
@@ -38,6 +40,10 @@ put-step {bs} {d} {d′} {r} p =
 -- where there is room a step has stored all
 pub step-put : {bs d d′ : List ℕ} {r : ℕ} → length bs ≤ length d → Step bs d r d′ → Put bs d r d′
 step-put {bs} {d} {d′} {r} h s = put-all bs d r (s .count) d′ (omega (arith, s .count)) (s .stored h)
+
+-- one behind another, as a call with `&mut out[at..]` leaves it
+pub two-put : {d d₁ e : List ℕ} {n m : ℕ} (at : ℕ) → at ≡ min n (length d₁) → (r : ℕ) → cap r ≡ cap (n + m) → (x y : List ℕ) → Put x d n d₁ → Put y (midOf at (length d₁ - at) d₁) m e → Capped (x ++ y) d r (putMid at (length d₁ - at) d₁ e)
+two-put at h r k x y p q = capped-behind (capped (put-step p)) at h (capped (put-step q)) r k
 
 -- a Boolean's byte is the number that it is cast to
 pub put-flag : (b : Bool) (d : List ℕ) (r : ℕ) (d′ : List ℕ) → Put (bytes 1 (boolByte b)) d r d′ → Put (flagBytes b) d r d′

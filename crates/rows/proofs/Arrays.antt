@@ -12,7 +12,7 @@ use Rattle.layout.specs.Tables.{countCell, readRows}
 use Rattle.layout.proofs.Local.{not-ok}
 use Rattle.rows.specs.Store.{State, add}
 use Rattle.rows.specs.Walk.{itemCount, on, walk}
-use Rattle.rows.proofs.Steps.{give-took, then-no, then-took}
+use Rattle.rows.proofs.Chains.{give-took, then-no, then-took}
 
 pub row-end : (w : Bool) (o : ℕ) (st : State) (s : List ℕ) (p : ℕ) → ok st p ≡ on (walk w end o st) s p
 unfolding readRows

@@ -19,7 +19,7 @@ use Rattle.layout.proofs.Steps.{primitive-place}
 use Rattle.rows.specs.Store.{State, add}
 use Rattle.rows.specs.Walk.{on, walk}
 use Rattle.rows.proofs.Moves.{at-fits, at-no, at-took, furtherBasic, moves-basic}
-use Rattle.rows.proofs.Steps.{then-no, then-took}
+use Rattle.rows.proofs.Chains.{then-no, then-took}
 
 -- ---- a field refuses at its own start
 

@@ -14,7 +14,7 @@ use Rattle.layout.proofs.Maps.{over, then-assoc}
 use Rattle.rows.specs.Store.{State, add}
 use Rattle.rows.specs.Walk.{on, walk}
 use Rattle.rows.proofs.Flat.{Flat, add-none}
-use Rattle.rows.proofs.Steps.{give-took, then-no, then-took}
+use Rattle.rows.proofs.Chains.{give-took, then-no, then-took}
 use Rattle.rows.proofs.Stores.{add-two}
 
 -- the fields of l, and r behind them

@@ -14,7 +14,7 @@ use Rattle.layout.proofs.Maps.{then-assoc}
 use Rattle.rows.specs.Store.{State, add}
 use Rattle.rows.specs.Walk.{on, walk}
 use Rattle.rows.proofs.Front.{onto, then-give}
-use Rattle.rows.proofs.Steps.{then-no, then-took}
+use Rattle.rows.proofs.Chains.{then-no, then-took}
 
 module _ (w : Bool) (r : Shape) (o : ℕ) where
   abbrev behind : State → Reader State

@@ -2,7 +2,7 @@
 use mathlib.Core.Bool.{Bool, _&&_, false, true}
 use mathlib.Core.List.{List, [], _∷_}
 use mathlib.Core.Path.{_∙_, _≡_, ap, ap₂, refl, sym}
-use Prim.Native.Nat.{_+_, _/_, _<_, _≤_, suc, ℕ}
+use Prim.Native.Nat.{_*_, _+_, _/_, _<_, _≤_, suc, ℕ}
 use native.Mathlib.Numerals.{add-one}
 use native.Mathlib.Omega.{arith}
 use lib.ListN.{drop, drop-of-length-le, getD, length}
@@ -57,3 +57,30 @@ module _ (p : List ℕ → Bool) (w : ℕ) (table : List ℕ) where
   pub judged-end : (i : ℕ) → Judged p w table i → length table / w ≤ i → true ≡ all p (rowsOf w table)
   unfolding all
   judged-end i a h = sym (ap (all p) (drop-of-length-le (rowsOf w table) {i = i} (omega (arith, rows-many w table)))) ∙ a .same
+
+-- ---- two rows a turn: those before are good, and these decide
+
+module _ {p : List ℕ → Bool} {w : ℕ} {table : List ℕ} {t : ℕ} (g : Judged p w table (t * 2)) {a : Bool} (e : a ≡ p (getD (rowsOf w table) (t * 2) [])) where
+  module _ (h : t < length table / w / 2) where
+    pub pair-first : a ≡ false → false ≡ all p (rowsOf w table)
+    pair-first x = judged-stop p w table (t * 2) g (omega arith) a e x
+
+    module _ (x : a ≡ true) {b : Bool} (f : b ≡ p (getD (rowsOf w table) (t * 2 + 1) [])) where
+      one : Judged p w table (t * 2 + 1)
+      one = judged-more p w table (t * 2) g (omega arith) a e x
+
+      pub pair-second : b ≡ false → false ≡ all p (rowsOf w table)
+      pair-second y = judged-stop p w table (t * 2 + 1) one (omega arith) b f y
+
+      pub pair-more : b ≡ true → Judged p w table ((t + 1) * 2)
+      pair-more y =
+          let n : t * 2 + 1 + 1 ≡ (t + 1) * 2 = omega arith in
+          rw n at (judged-more p w table (t * 2 + 1) one (omega arith) b f y)
+
+  -- the last, where their number is odd
+  pub odd-last : length table / w / 2 ≤ t → t * 2 < length table / w → a ≡ all p (rowsOf w table)
+  odd-last l h = last a e
+    where
+      last : (b : Bool) → b ≡ p (getD (rowsOf w table) (t * 2) []) → b ≡ all p (rowsOf w table)
+      last true f = judged-end p w table (t * 2 + 1) (judged-more p w table (t * 2) g h true f refl) (omega arith)
+      last false f = judged-stop p w table (t * 2) g h false f refl

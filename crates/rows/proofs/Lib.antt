@@ -1,7 +1,7 @@
 -- a step behind another, and item behind item
 pub mod Step
--- one step of a reader at a place of the message
-pub mod Steps
+-- readers one behind the other, at a place of the message
+pub mod Chains
 -- a loop over items
 pub mod Loops
 -- stores one after the other

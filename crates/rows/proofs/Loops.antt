@@ -5,7 +5,7 @@ use Prim.Native.Nat.{_-_, _<_, _≤_, ℕ}
 use Rattle.layout.specs.Reading.{Reader, Refusal, Res, bad, loop, ok}
 use Rattle.rows.specs.Store.{State}
 use Rattle.rows.specs.Walk.{Runs, on}
-use Rattle.rows.proofs.Steps.{loop-done, loop-next, loop-no}
+use Rattle.rows.proofs.Chains.{loop-done, loop-next, loop-no}
 
 module _ {E : Type 0} (x : E → State → Reader State) (s : List ℕ) (count at : ℕ) (b₀ : E → State) where
   -- n are left to read from p on: that is what was asked at the start

@@ -18,7 +18,7 @@ use Rattle.rows.specs.Walk.{on, rowFrom, walk}
 use Rattle.rows.proofs.Flat as Flat
 use Rattle.rows.proofs.Flat.{Flat, keep-flat}
 use Rattle.rows.proofs.Front.{front-no, front-took, onto, then-give}
-use Rattle.rows.proofs.Steps.{give-took, then-no, then-took}
+use Rattle.rows.proofs.Chains.{give-took, then-no, then-took}
 
 -- ---- field by field
 

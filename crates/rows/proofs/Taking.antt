@@ -24,6 +24,34 @@ sum-cells g k [] = none
     none = omega arith
 sum-cells g k (r ∷ rs) = ap (λ (n : ℕ). g r * k + n) (sum-cells g k rs) ∙ sym (add-mul (g r) (sum g rs) k)
 
+-- ---- what rows of w cells take of another table is there
+
+-- `left` and `free` are what is left of the two tables: t is told of a row's cells in `others`
+pub record Enough (w : ℕ) (t : List ℕ → ℕ) (others left free : List ℕ) : Type 0 where
+  pub short : length free ≤ length others
+  pub enough : sum t (rowsOf w left) ≤ length free
+
+module _ (w : ℕ) (t : List ℕ → ℕ) (others : List ℕ) where
+  pub enough-start : (items : List ℕ) → sum t (rowsOf w items) ≤ length others → Enough w t others items others
+  enough-start items h = record { short = omega arith; enough = h }
+
+  module _ (z : 0 < w) (first : (cs : List ℕ) → t (take w cs) ≡ t cs) {left free : List ℕ} (a : Enough w t others left free) (h : w ≤ length left) where
+    -- what the next row tells, and those behind it
+    first-told : sum t (rowsOf w left) ≡ t left + sum t (rowsOf w (drop w left))
+    unfolding sum
+    first-told = ap (sum t) (rows-first w left z h) ∙ ap (λ (c : ℕ). c + sum t (rowsOf w (drop w left))) (first left)
+
+    pub enough-here : t left ≤ length free
+    enough-here = omega (arith, first-told, a .enough)
+
+    -- behind it, where it took c
+    pub enough-more : (c : ℕ) → c ≤ t left → Enough w t others (drop w left) (take (length free - c) (drop c free))
+    enough-more c l =
+        let y : take (length free - c) (drop c free) ≡ drop c free = take-all (length free - c) (drop c free) (omega (arith, length-drop c free)) in
+        rw y (record { short = omega (arith, a .short, length-drop c free); enough = omega (arith, first-told, a .enough, length-drop c free) })
+
+-- ---- what they mean, and what is written of them
+
 -- the first row of `items` means m, takes w cells of `items` and k of `others`, and leaves the body's own row alone
 module _ {A : Type 0} (w : ℕ) (k : List ℕ → ℕ) (g : Tables → A × Tables) (m : List ℕ → List ℕ → A) (one : (own items others : List ℕ) → g (own ∷ items ∷ others ∷ []) ≡ (m items others, own ∷ drop w items ∷ drop (k items) others ∷ [])) where
   -- whatever stands in the body's own row
@@ -59,25 +87,19 @@ module _ {A : Type 0} (w : ℕ) (k : List ℕ → ℕ) (g : Tables → A × Tabl
       pub turn : ℕ
       pub rows : turn + length left / w ≡ length items / w
       pub state : behind g turn ([] ∷ items ∷ others ∷ []) ≡ [] ∷ left ∷ free ∷ []
-      pub short : length free ≤ length others
-      pub enough : sum t (rowsOf w left) ≤ length free
+      pub room : Enough w t others left free
       pub step : Capped (each u (take turn all)) d n d′
 
     pub taking-start : (d : List ℕ) → sum t (rowsOf w items) ≤ length others → Taking d 0 d items others
-    taking-start d h = record { turn = 0; rows = omega arith; state = behind-none g ([] ∷ items ∷ others ∷ []); short = omega arith; enough = h; step = capped-none u all d }
+    taking-start d h = record { turn = 0; rows = omega arith; state = behind-none g ([] ∷ items ∷ others ∷ []); room = enough-start w t others items h; step = capped-none u all d }
 
     module _ (z : 0 < w) {d : List ℕ} {n : ℕ} {d₁ left free : List ℕ} (a : Taking d n d₁ left free) where
       pub taking-end : length left < w → Capped (each u all) d n d₁
       taking-end h = capped-all u all (a .turn) (omega (arith, times-many g (length items / w) ([] ∷ items ∷ others ∷ []), a .rows, div-eq-of-lt h)) (a .step)
 
       module _ (first : (cs : List ℕ) → t (take w cs) ≡ t cs) (most : (cs : List ℕ) → k cs ≤ t cs) (h : w ≤ length left) where
-        -- what the next row tells, and those behind it
-        first-told : sum t (rowsOf w left) ≡ t left + sum t (rowsOf w (drop w left))
-        unfolding sum
-        first-told = ap (sum t) (rows-first w left z h) ∙ ap (λ (c : ℕ). c + sum t (rowsOf w (drop w left))) (first left)
-
         pub taking-enough : t left ≤ length free
-        taking-enough = omega (arith, first-told, a .enough)
+        taking-enough = enough-here w t others z first (a .room) h
 
         one-less : length left / w ≡ length (drop w left) / w + 1
         one-less = div-eq-sub-div z h ∙ ap (λ (j : ℕ). j / w + 1) (sym (length-drop w left))
@@ -95,7 +117,6 @@ module _ {A : Type 0} (w : ℕ) (k : List ℕ → ℕ) (g : Tables → A × Tabl
               turn = a .turn + 1;
               rows = ap (λ (l : List ℕ). a .turn + 1 + length l / w) x ∙ omega (arith, a .rows, one-less);
               state = behind-next g (a .turn) ([] ∷ items ∷ others ∷ []) ∙ ap (λ (st : Tables). g st .1) (a .state) ∙ ap (λ (p : A × Tables). p .1) (one [] left free) ∙ sym (ap₂ (λ (l o : List ℕ). [] ∷ l ∷ o ∷ []) x y);
-              short = omega (arith, a .short, ap length y, length-drop (k left) free);
-              enough = rw (x, y) (omega (arith, first-told, a .enough, most left, length-drop (k left) free));
+              room = rw x (enough-more w t others z first (a .room) h c (omega (arith, b, most left)));
               step = capped-next u all (a .turn) (m left free) (omega (arith, times-many g (length items / w) ([] ∷ items ∷ others ∷ []), a .rows, one-less)) (a .step) at i (capped-as (sym f) s) r q;
             }

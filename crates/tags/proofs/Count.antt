@@ -14,7 +14,7 @@ use Rattle.primitives.specs.declared.Refusal as Code
 use Rattle.rows.specs.Store.{State, Tab, add, store, tab}
 use Rattle.rows.specs.Walk.{Place, Places, Runs, on, walk}
 use Rattle.rows.proofs.Arrays.{array-no, array-no-count, array-took, row-end}
-use Rattle.rows.proofs.Steps.{give-took}
+use Rattle.rows.proofs.Chains.{give-took}
 use Rattle.places.proofs.Fronts.{byte-at}
 use Rattle.tags.specs.Answers.{inTable, inTableIs, inTables, inTablesIs, tagShape, tagsShape}
 use Rattle.tags.specs.declared.Tags.{Tags}

@@ -12,7 +12,7 @@ use Rattle.layout.proofs.Contents.{rowCells}
 use Rattle.rows.specs.Store.{store, tab}
 use Rattle.rows.specs.Walk.{Runs, on, walk}
 use Rattle.rows.proofs.Flat.{placed-took, row-no}
-use Rattle.rows.proofs.Steps.{give-took, then-no, then-took}
+use Rattle.rows.proofs.Chains.{give-took, then-no, then-took}
 use Rattle.tags.specs.Answers.{inTable, inTableIs, ofTag, tagShape}
 use Rattle.tags.specs.declared.Tag.{Tag}
 use Rattle.tags.specs.declared.Tags.{Tags}

@@ -16,7 +16,7 @@ use Rattle.rows.specs.Store.{State, Tab, add, store, tab}
 use Rattle.rows.specs.Walk.{Places, Runs, beside, inPlace, on, walk}
 use Rattle.rows.proofs.Arrays.{array-no, array-no-count, array-took, row-end}
 use Rattle.rows.proofs.Beside.{behindCount, items-beside}
-use Rattle.rows.proofs.Steps.{give-took}
+use Rattle.rows.proofs.Chains.{give-took}
 use Rattle.topics.specs.Shapes.{nodeShape, nodesShape}
 use Rattle.walks.specs.Answers.{besideIs, filledIs}
 use Rattle.walks.specs.declared.Counted.{Counted}

@@ -14,7 +14,7 @@ use Rattle.rows.proofs.Arrays.{items-no, items-no-count, items-took}
 use Rattle.rows.proofs.Close.{store-own}
 use Rattle.rows.proofs.Front.{onto, stands-flat, stands-onto}
 use Rattle.rows.proofs.RowCells.{row-no, row-took}
-use Rattle.rows.proofs.Steps.{Both, both, give-took, same-end, same-refusal, same-value, then-no, then-took}
+use Rattle.rows.proofs.Chains.{Both, both, give-took, same-end, same-refusal, same-value, then-no, then-took}
 use Rattle.versioned.specs.Fronts.{frontOf}
 
 abbrev time : Basic

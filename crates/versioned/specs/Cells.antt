@@ -6,7 +6,7 @@ use Rattle.primitives.specs.Answers.{ofRefusal}
 use Rattle.primitives.specs.declared.Number.{Number}
 use Rattle.fields.specs.declared.Field.{Field}
 use Rattle.fields.specs.declared.Nullable.{Nullable}
-use Rattle.versioned.specs.declared.Version.{Version}
+use Rattle.versioned.specs.declared.VersionedAt.{VersionedAt}
 use Rattle.versioned.specs.declared.Versioned.{Versioned}
 
 abbrev pub versionedCells : Versioned → List ℕ
@@ -28,9 +28,9 @@ fieldCells Field.Absent = 0 ∷ 0 ∷ 0 ∷ []
 fieldCells Field.Null = 1 ∷ 0 ∷ 0 ∷ []
 fieldCells (Field.Present a k) = 2 ∷ a ∷ k ∷ []
 
-abbrev pub ofVersion : Version → Res (List ℕ)
-ofVersion (Version.Took x n) = ok (versionedCells x) n
-ofVersion (Version.Refused e) = bad (ofRefusal e)
+abbrev pub ofVersionedAt : VersionedAt → Res (List ℕ)
+ofVersionedAt (VersionedAt.Took x n) = ok (versionedCells x) n
+ofVersionedAt (VersionedAt.Refused e) = bad (ofRefusal e)
 
 abbrev pub ofCell : Number → Res (List ℕ)
 ofCell (Number.Took c n) = ok (c ∷ []) n

@@ -4,7 +4,7 @@ ghost use mathlib.Core.List.{[], _∷_};
 ghost use Rattle.layout.specs.Primitives.{fixed, kept, w16, w32, w64};
 ghost use Rattle.layout.specs.Rows.{boolean, end, number, optional, stands, text};
 ghost use Rattle.rows.specs.Walk.{on, rowFrom};
-ghost use Rattle.versioned.specs.Cells.{ofCell, ofText, ofVersion};
+ghost use Rattle.versioned.specs.Cells.{ofCell, ofText, ofVersionedAt};
 ghost use Rattle.versioned.specs.Fronts.{frontOf, ofFront};
 use fields::Field;
 use fields::Nullable;
@@ -28,8 +28,8 @@ pub enum Versioned {
     Present(u64),
 }
 
-// It, and the place behind it.
-pub enum Version {
+// The same where it was read, with the place behind it.
+pub enum VersionedAt {
     Took { value: Versioned, next: usize },
     Refused(Refusal),
 }
@@ -44,21 +44,21 @@ pub enum Front {
     Refused(Refusal),
 }
 
-pub fn int32_if(s: &[u8], p: usize, there: bool) -> Version
-    ensures { λ r. ⌜ ofVersion r ≡ on (rowFrom [] (stands there (optional (0 ∷ []) (number w32)) end)) (now (s .entry)) p ⌝ }
+pub fn int32_if(s: &[u8], p: usize, there: bool) -> VersionedAt
+    ensures { λ r. ⌜ ofVersionedAt r ≡ on (rowFrom [] (stands there (optional (0 ∷ []) (number w32)) end)) (now (s .entry)) p ⌝ }
 {
     if !there {
-        return Version::Took {
+        return VersionedAt::Took {
             value: Versioned::Absent,
             next: p,
         };
     }
     match int32_at(s, p) {
-        Number::Took { value, used } => Version::Took {
+        Number::Took { value, used } => VersionedAt::Took {
             value: Versioned::Present(value),
             next: used,
         },
-        Number::Refused(e) => Version::Refused(e),
+        Number::Refused(e) => VersionedAt::Refused(e),
     }
 }
 
@@ -111,7 +111,7 @@ pub fn front_of(s: &[u8], there: bool) -> Front
     ensures { λ r. ⌜ ofFront r ≡ on (frontOf there) (now (s .entry)) 0 ⌝ }
 {
     match int32_if(s, 0, there) {
-        Version::Took {
+        VersionedAt::Took {
             value: throttle,
             next: p,
         } => match items_at(s, p, false, false) {
@@ -125,6 +125,6 @@ pub fn front_of(s: &[u8], there: bool) -> Front
             },
             Number::Refused(e) => Front::Refused(e),
         },
-        Version::Refused(e) => Front::Refused(e),
+        VersionedAt::Refused(e) => Front::Refused(e),
     }
 }

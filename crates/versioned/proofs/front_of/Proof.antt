@@ -1,7 +1,7 @@
 -- A throttle time, where the version has one, and a count behind it.
 use mathlib.Core.Path.{_∙_, ap, sym}
 use Rattle.primitives.specs.Answers.{ofNumber}
-use Rattle.versioned.specs.Cells.{ofVersion}
+use Rattle.versioned.specs.Cells.{ofVersionedAt}
 use Rattle.versioned.proofs.Fronts.{count-no, count-took, throttle-no}
 use borrow.Author.Needs.{needs}
 use Rattle.versioned.proofs.front_of.Statement.{statement}
@@ -26,13 +26,13 @@ enum-known-e-2 : tie.Need-enum-known-e-2
 enum-known-e-2 c = search needs
 
 returns : tie.Need-returns
-returns c = count-took _ _ _ _ (ap ofVersion (sym (c .before .before .before .before .before .throttle .given .1)) ∙ c .before .before .before .before .before .before .before .int32-if .ensures) _ _ (ap ofNumber (sym (c .before .count .given .1)) ∙ c .before .before .before .items-at .ensures)
+returns c = count-took _ _ _ _ (ap ofVersionedAt (sym (c .before .before .before .before .before .throttle .given .1)) ∙ c .before .before .before .before .before .before .before .int32-if .ensures) _ _ (ap ofNumber (sym (c .before .count .given .1)) ∙ c .before .before .before .items-at .ensures)
 
 returns-2 : tie.Need-returns-2
-returns-2 c = count-no _ _ _ _ (ap ofVersion (sym (c .before .before .before .before .before .throttle .given .1)) ∙ c .before .before .before .before .before .before .before .int32-if .ensures) _ (ap ofNumber (sym (c .before .e .given .1)) ∙ c .before .before .before .items-at .ensures)
+returns-2 c = count-no _ _ _ _ (ap ofVersionedAt (sym (c .before .before .before .before .before .throttle .given .1)) ∙ c .before .before .before .before .before .before .before .int32-if .ensures) _ (ap ofNumber (sym (c .before .e .given .1)) ∙ c .before .before .before .items-at .ensures)
 
 returns-3 : tie.Need-returns-3
-returns-3 c = throttle-no _ _ _ (ap ofVersion (sym (c .before .e2 .given .1)) ∙ c .before .before .before .int32-if .ensures)
+returns-3 c = throttle-no _ _ _ (ap ofVersionedAt (sym (c .before .e2 .given .1)) ∙ c .before .before .before .int32-if .ensures)
 
 pub front-of-spec : {M : Type 1} → statement M
 front-of-spec =

@@ -1,5 +1,5 @@
 -- The second goes to the rest behind the first.
-use Rattle.api_versions_written.proofs.Walk.{two-put}
+use Rattle.put.proofs.Stored.{two-put}
 use borrow.Author.Needs.{needs}
 use Rattle.api_versions_written.proofs.response.versions.Statement.{statement}
 use Rattle.api_versions_written.proofs.response.versions.Tie as tie

@@ -2,9 +2,8 @@
 use borrow.Author.Needs.{needs}
 use borrow.Author.Tests.{not-false, not-true}
 use Prim.Native.Nat.{_*_, _-_, _/_}
-use Rattle.rows.proofs.Judged.{Judged, judged-end, judged-start}
+use Rattle.rows.proofs.Judged.{Judged, judged-end, judged-start, odd-last, pair-first, pair-more, pair-second}
 use Rattle.fetch_request.specs.Judged.{partitionSmall}
-use Rattle.fetch_request.proofs.Fits.{odd-last, pair-first, pair-more, pair-second}
 use Rattle.fetch_request.proofs.judge.all_small.Statement.{statement}
 use Rattle.fetch_request.proofs.judge.all_small.Tie as tie
 

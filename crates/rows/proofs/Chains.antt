@@ -1,4 +1,4 @@
--- One step of a reader at a place of a message: what code that reads step by step owes.
+-- Readers one behind the other at a place of a message: what code that reads step by step owes.
 use mathlib.Core.List.{List}
 use mathlib.Core.Path.{_∙_, _≡_, ap, refl, sym}
 use Prim.Native.Nat.{_+_, _-_, _<_, _≤_, suc, zero, ℕ}
