@@ -86,6 +86,10 @@ module _ (f : Bool) {k : ℕ} (e : k ≡ untaggedWidth f) where
   pub told-items : (items : List ℕ) → length (untaggedItems f items) ≡ length items / 4 * k
   told-items items = items-wide f items ∙ ap (λ (n : ℕ). length items / 4 * n) (sym e)
 
+-- in a branch that knows whether the version is flexible
+pub known-version : (f g : Bool) → f ≡ g → (items : List ℕ) {d d′ : List ℕ} {r : ℕ} → Capped (untaggedItems g items) d r d′ → Capped (untaggedItems f items) d r d′
+known-version f g h items s = capped-as (ap (λ (b : Bool). untaggedItems b items) (sym h)) s
+
 -- ---- where no tags are told, all items are such
 
 none-bytes : (f : Bool) (lent : List ℕ) → tagsPart f lent [] ≡ noTags f

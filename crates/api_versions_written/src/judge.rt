@@ -2,6 +2,8 @@
 ghost use mathlib.Core.Path.{_≡_};
 ghost use mathlib.Core.List.{[], _∷_};
 ghost use lib.Dec.{ltb};
+ghost use lib.ListN.{getD, length};
+ghost use Prim.Native.Nat.{_/_, _<_};
 ghost use Rattle.layout.specs.Primitives.{limit};
 ghost use Rattle.layout.specs.Rows as Rows;
 ghost use Rattle.layout.specs.Tables.{all, rowsOf};
@@ -47,16 +49,33 @@ fn row_fits(key: u64, low: u64, high: u64) -> bool
     fits(high, 32768)
 }
 
+// The same of row i.
+fn fits_at(items: &[u64], i: usize) -> bool
+    requires { ⌜ i < length (now items) / 4 ⌝ }
+    ensures { λ r. ⌜ r ≡ rowHolds (getD (rowsOf 4 (now (items .entry))) i []) ⌝ }
+{
+    row_fits(items[i * 4], items[i * 4 + 1], items[i * 4 + 2])
+}
+
+// Two rows a turn, the numbers of both loaded before one is judged, so that one test does for all six.
 fn all_fit(items: &[u64]) -> bool
     ensures { λ r. ⌜ r ≡ all rowHolds (rowsOf 4 (now (items .entry))) ⌝ }
 {
     let n = items.len() / 4;
-    let mut i: usize = 0;
-    while i < n {
-        if !row_fits(items[i * 4], items[i * 4 + 1], items[i * 4 + 2]) {
+    let mut turn: usize = 0;
+    while turn < n / 2 {
+        let a = fits_at(items, turn * 2);
+        let b = fits_at(items, turn * 2 + 1);
+        if !a {
             return false;
         }
-        i = i + 1;
+        if !b {
+            return false;
+        }
+        turn = turn + 1;
+    }
+    if turn * 2 < n {
+        return fits_at(items, turn * 2);
     }
     true
 }

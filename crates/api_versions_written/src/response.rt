@@ -135,25 +135,26 @@ fn untagged_rows(out: &mut [u8], flexible: bool, width: usize, items: &[u64]) ->
     p
 }
 
-fn untagged_width(flexible: bool) -> usize
-    ensures { λ r. ⌜ r ≡ untaggedWidth flexible ⌝ }
-{
-    if flexible {
-        return 7;
-    }
-    6
-}
-
 // Rows of one width are measured by their number.
-fn untagged_items(out: &mut [u8], flexible: bool, items: &[u64]) -> usize
+fn items_of_width(out: &mut [u8], flexible: bool, width: usize, items: &[u64]) -> usize
+    requires { ⌜ width ≡ untaggedWidth flexible ⌝ }
     ensures { λ r. ⌜ Capped (untaggedItems flexible (now (items .entry))) (now (out .entry)) r (now (out .exit)) ⌝ }
 {
-    let width = untagged_width(flexible);
     let all = items.len() / 4 * width;
     if all <= out.len() {
         untagged_rows(&mut out[..all], flexible, width, items);
     }
     all
+}
+
+// The width is told as a number, so that the loop is compiled for each.
+fn untagged_items(out: &mut [u8], flexible: bool, items: &[u64]) -> usize
+    ensures { λ r. ⌜ Capped (untaggedItems flexible (now (items .entry))) (now (out .entry)) r (now (out .exit)) ⌝ }
+{
+    if flexible {
+        return items_of_width(out, true, 7, items);
+    }
+    items_of_width(out, false, 6, items)
 }
 
 // ---- all items

@@ -1,72 +1,65 @@
--- Before each turn the first i rows hold their numbers, and those left decide.
+-- Before each turn the rows of the turns before hold their numbers, and those left decide.
 use borrow.Author.Needs.{needs}
 use borrow.Author.Tests.{not-false, not-true}
-use Prim.Native.Nat.{_-_}
-use Rattle.rows.proofs.Judged.{Judged, judged-end, judged-more, judged-start, judged-stop}
+use Prim.Native.Nat.{_*_, _-_, _/_}
+use Rattle.rows.proofs.Judged.{Judged, judged-end, judged-start, odd-last, pair-first, pair-more, pair-second}
 use Rattle.api_versions_written.specs.Responses.{rowHolds}
-use Rattle.api_versions_written.proofs.Fits.{row-told}
 use Rattle.api_versions_written.proofs.judge.all_fit.Statement.{statement}
 use Rattle.api_versions_written.proofs.judge.all_fit.Tie as tie
 
 abbrev Inv-loop : tie.InvT-loop
-Inv-loop items n i₀ i = Judged rowHolds 4 items i
+Inv-loop items n turn₀ turn = Judged rowHolds 4 items (turn * 2)
 
 abbrev μ-loop : tie.MeasureT-loop
-μ-loop items n i₀ i = n - i
+μ-loop items n turn₀ turn = n / 2 - turn
 
 loop-holds : tie.Need-loop-holds Inv-loop μ-loop
 loop-holds c = judged-start _ _ _
 
-mul-row-fits : tie.Need-mul-row-fits Inv-loop μ-loop
-mul-row-fits c = search needs
+mul-fits-at : tie.Need-mul-fits-at Inv-loop μ-loop
+mul-fits-at c = search needs
 
-mul-row-fits-2 : tie.Need-mul-row-fits-2 Inv-loop μ-loop
-mul-row-fits-2 c = search needs
+fits-at-requires : tie.Need-fits-at-requires Inv-loop μ-loop
+fits-at-requires c κs = search needs
 
-shared-slice-read-row-fits : tie.Need-shared-slice-read-row-fits Inv-loop μ-loop
-shared-slice-read-row-fits c = search needs
+mul-fits-at-2 : tie.Need-mul-fits-at-2 Inv-loop μ-loop
+mul-fits-at-2 c = search needs
 
-mul-row-fits-3 : tie.Need-mul-row-fits-3 Inv-loop μ-loop
-mul-row-fits-3 c = search needs
+add-fits-at : tie.Need-add-fits-at Inv-loop μ-loop
+add-fits-at c = search needs
 
-add-row-fits : tie.Need-add-row-fits Inv-loop μ-loop
-add-row-fits c = search needs
-
-mul-row-fits-4 : tie.Need-mul-row-fits-4 Inv-loop μ-loop
-mul-row-fits-4 c = search needs
-
-shared-slice-read-row-fits-2 : tie.Need-shared-slice-read-row-fits-2 Inv-loop μ-loop
-shared-slice-read-row-fits-2 c = search needs
-
-mul-row-fits-5 : tie.Need-mul-row-fits-5 Inv-loop μ-loop
-mul-row-fits-5 c = search needs
-
-add-row-fits-2 : tie.Need-add-row-fits-2 Inv-loop μ-loop
-add-row-fits-2 c = search needs
-
-mul-row-fits-6 : tie.Need-mul-row-fits-6 Inv-loop μ-loop
-mul-row-fits-6 c = search needs
-
-shared-slice-read-row-fits-3 : tie.Need-shared-slice-read-row-fits-3 Inv-loop μ-loop
-shared-slice-read-row-fits-3 c = search needs
-
-row-fits-requires : tie.Need-row-fits-requires Inv-loop μ-loop
-row-fits-requires c κs = search needs
+fits-at-requires-2 : tie.Need-fits-at-requires-2 Inv-loop μ-loop
+fits-at-requires-2 c κs = search needs
 
 returns : tie.Need-returns Inv-loop μ-loop
-returns c = judged-stop _ _ _ _ (c .before .before .before .before .before .before .loop .inv) (c .before .before .before .before .before .loop-test .taken) _ (row-told _ _ (c .before .before .before .before .before .loop-test .taken) _ (c .before .row-fits .ensures)) (not-true _ (c .if1 .taken))
+returns c = pair-first (c .before .before .before .before .loop .inv) (c .before .before .fits-at .ensures) (c .before .before .before .loop-test .taken) (not-true _ (c .if1 .taken))
 
-add-i : tie.Need-add-i Inv-loop μ-loop
-add-i c = search needs
+returns-2 : tie.Need-returns-2 Inv-loop μ-loop
+returns-2 c = pair-second (c .before .before .before .before .before .loop .inv) (c .before .before .before .fits-at .ensures) (c .before .before .before .before .loop-test .taken) (not-false _ (c .before .if1 .left)) (c .before .before .fits-at2 .ensures) (not-true _ (c .if2 .taken))
+
+add-turn : tie.Need-add-turn Inv-loop μ-loop
+add-turn c = search needs
 
 loop-less : tie.Need-loop-less Inv-loop μ-loop
 loop-less c = search needs
 
 loop-again : tie.Need-loop-again Inv-loop μ-loop
-loop-again c = judged-more _ _ _ _ (c .before .before .before .before .before .before .loop .inv) (c .before .before .before .before .before .loop-test .taken) _ (row-told _ _ (c .before .before .before .before .before .loop-test .taken) _ (c .before .row-fits .ensures)) (not-false _ (c .if1 .left))
+loop-again c = pair-more (c .before .before .before .before .before .loop .inv) (c .before .before .before .fits-at .ensures) (c .before .before .before .before .loop-test .taken) (not-false _ (c .before .if1 .left)) (c .before .before .fits-at2 .ensures) (not-false _ (c .if2 .left))
 
-returns-2 : tie.Need-returns-2 Inv-loop μ-loop
-returns-2 c = judged-end _ _ _ _ (c .before .loop .inv) (c .loop-test .left)
+mul-if3 : tie.Need-mul-if3 Inv-loop μ-loop
+mul-if3 c = search needs
+
+mul-fits-at-3 : tie.Need-mul-fits-at-3 Inv-loop μ-loop
+mul-fits-at-3 c = search needs
+
+fits-at-requires-3 : tie.Need-fits-at-requires-3 Inv-loop μ-loop
+fits-at-requires-3 c κs = search needs
+
+returns-3 : tie.Need-returns-3 Inv-loop μ-loop
+returns-3 c = odd-last (c .before .before .before .loop .inv) (c .fits-at3 .ensures) (c .before .before .loop-test .left) (c .before .if3 .taken)
+
+returns-4 : tie.Need-returns-4 Inv-loop μ-loop
+returns-4 c = judged-end _ _ _ _ (c .before .before .loop .inv) (c .if3 .left)
 
 pub all-fit-spec : {M : Type 1} → statement M
 all-fit-spec =
@@ -75,20 +68,18 @@ all-fit-spec =
     Inv-loop
     μ-loop
     loop-holds
-    mul-row-fits
-    mul-row-fits-2
-    shared-slice-read-row-fits
-    mul-row-fits-3
-    add-row-fits
-    mul-row-fits-4
-    shared-slice-read-row-fits-2
-    mul-row-fits-5
-    add-row-fits-2
-    mul-row-fits-6
-    shared-slice-read-row-fits-3
-    row-fits-requires
+    mul-fits-at
+    fits-at-requires
+    mul-fits-at-2
+    add-fits-at
+    fits-at-requires-2
     returns
-    add-i
+    returns-2
+    add-turn
     loop-less
     loop-again
-    returns-2)
+    mul-if3
+    mul-fits-at-3
+    fits-at-requires-3
+    returns-3
+    returns-4)

@@ -1,48 +1,26 @@
--- The items fill the front of the output, or have no room in it.
-use mathlib.Core.Path.{sym}
-use native.Mathlib.Omega.{arith}
-use Prim.Native.Nat.{_/_}
-use lib.ListN.{length}
-use lib.Seq.{length-take-le}
-use Rattle.put.proofs.Even.{front-all, front-none}
-use Rattle.api_versions_written.proofs.Untagged.{told-fits, told-items}
+-- Each branch knows whether the version is flexible, and with it the width.
+use Rattle.api_versions_written.proofs.Untagged.{known-version}
 use borrow.Author.Needs.{needs}
 use Rattle.api_versions_written.proofs.response.untagged_items.Statement.{statement}
 use Rattle.api_versions_written.proofs.response.untagged_items.Tie as tie
 
-untagged-width-requires : tie.Need-untagged-width-requires
-untagged-width-requires c κs = search needs
-
-mul-all : tie.Need-mul-all
-mul-all c = omega (arith, told-fits (c .before .before .before .args .flexible) (c .untagged-width .ensures) (length (c .before .before .before .args .items .now) / 4) (omega arith))
-
-slice-relend-prefix-untagged-rows : tie.Need-slice-relend-prefix-untagged-rows
-slice-relend-prefix-untagged-rows c = search needs
-
-slice-aggregate-untagged-rows : tie.Need-slice-aggregate-untagged-rows
-slice-aggregate-untagged-rows c = sym (length-take-le _ _ (c .before .if1 .taken))
-
-untagged-rows-requires : tie.Need-untagged-rows-requires
-untagged-rows-requires c κs = (c .before .before .untagged-width .ensures, length-take-le _ _ (c .before .if1 .taken))
+items-of-width-requires : tie.Need-items-of-width-requires
+items-of-width-requires c κs = search needs
 
 same-length : tie.Need-same-length
 same-length c = search needs
 
 returns : tie.Need-returns
-returns c = front-all (told-items (c .before .before .before .before .before .before .before .before .args .flexible) (c .before .before .before .before .before .untagged-width .ensures) _) (c .before .before .before .before .if1 .taken) (c .before .before .untagged-rows .ensures)
+returns c = known-version _ _ (c .before .before .before .before .if1 .taken) _ (c .before .before .items-of-width .ensures)
+
+items-of-width-requires-2 : tie.Need-items-of-width-requires-2
+items-of-width-requires-2 c κs = search needs
+
+same-length-2 : tie.Need-same-length-2
+same-length-2 c = search needs
 
 returns-2 : tie.Need-returns-2
-returns-2 c = front-none (told-items (c .before .before .before .before .args .flexible) (c .before .untagged-width .ensures) _) (c .if1 .left)
+returns-2 c = known-version _ _ (c .before .before .before .before .if1 .left) _ (c .before .before .items-of-width2 .ensures)
 
 pub untagged-items-spec : {M : Type 1} → statement M
-untagged-items-spec =
-    tie.close
-    (tie.spec
-    untagged-width-requires
-    mul-all
-    slice-relend-prefix-untagged-rows
-    slice-aggregate-untagged-rows
-    untagged-rows-requires
-    same-length
-    returns
-    returns-2)
+untagged-items-spec = tie.close (tie.spec items-of-width-requires same-length returns items-of-width-requires-2 same-length-2 returns-2)
