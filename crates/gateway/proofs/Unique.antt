@@ -2,7 +2,6 @@
 use mathlib.Core.List.{List}
 use mathlib.Core.Path.{_∙_, _≡_, sym}
 use Prim.Native.Nat.{ℕ}
-use lib.IntN.{ℤ}
 use Rattle.layout.specs.Tables.{Tables}
 use Rattle.gateway.specs.declared.Numbers.{Numbers}
 use Rattle.gateway.specs.declared.PrimitiveNumbers.{PrimitiveNumbers}
@@ -21,6 +20,3 @@ primitive-unique = unique
 -- all writers
 pub written-unique : (o x y : Numbers × List ℕ) → x ≡ o → y ≡ o → x ≡ y
 written-unique = unique
-
-pub agree-unique : (o x y : List ℤ) → x ≡ o → y ≡ o → x ≡ y
-agree-unique = unique

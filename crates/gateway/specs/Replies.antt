@@ -1,13 +1,8 @@
 -- What the entry points hand back: for each answer of the definitions (layout/specs/Answers.antt) the numbers of the struct.
 -- An acceptance has the number 0; a refusal tells its number, place and need, and every other number is 0. Assumes nothing.
-use mathlib.Core.List.{List, map}
 use Prim.Native.Nat.{ℕ}
-use lib.IntN.{ℤ}
 use lib.ListN.{getD}
 use Rattle.layout.specs.Answers.{Answer, accepted, refused}
-use Rattle.layout.specs.Primitives.{signed, w64}
-use Rattle.layout.specs.Agreement.{agreement}
-use Rattle.layout.specs.Write.{each}
 use Rattle.gateway.specs.declared.Numbers.{Numbers}
 use Rattle.gateway.specs.declared.TagsNumbers.{TagsNumbers}
 use Rattle.gateway.specs.declared.PrimitiveNumbers.{PrimitiveNumbers}
@@ -29,8 +24,3 @@ tagsNumbers (refused e) = record { number = e .number; place = e .place; need = 
 abbrev pub primitiveNumbers : Answer → PrimitiveNumbers
 primitiveNumbers (accepted cs n) = record { number = 0; place = 0; need = 0; used = n; form = getD cs 0 0; value = getD cs 1 0; length = getD cs 2 0 }
 primitiveNumbers (refused e) = record { number = e .number; place = e .place; need = e .need; used = 0; form = 0; value = 0; length = 0 }
-
--- ---- agreement: row behind row, each cell as its signed number
-
-unfoldable pub agreedNumbers : List ℕ → List ℤ
-agreedNumbers items = map (signed w64) (each (λ r. r) (agreement items))

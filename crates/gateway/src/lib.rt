@@ -12,7 +12,6 @@ use writers::Written;
 
 pub mod primitive;
 pub mod tagged;
-pub mod versions;
 
 // What every answer begins with, and that of a writer is: `used` bytes were read or written.
 #[repr(C)]

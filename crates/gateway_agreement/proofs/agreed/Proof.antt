@@ -1,8 +1,8 @@
 -- Three rows of three numbers, which are those of the agreement in order.
 use borrow.Author.Needs.{needs}
-use Rattle.gateway.proofs.Agreed.{nine-numbers}
-use Rattle.gateway.proofs.versions.agreed.Statement.{statement}
-use Rattle.gateway.proofs.versions.agreed.Tie as tie
+use Rattle.gateway_agreement.proofs.NineNumbers.{nine-numbers}
+use Rattle.gateway_agreement.proofs.agreed.Statement.{statement}
+use Rattle.gateway_agreement.proofs.agreed.Tie as tie
 
 agree-requires : tie.Need-agree-requires
 agree-requires c κs = search needs

@@ -13,7 +13,7 @@ use Rattle.layout.specs.Tables.{firstRow, rowsOf}
 use Rattle.layout.specs.Agreement.{agreed, agreement}
 use Rattle.layout.specs.Write.{each}
 use Rattle.agreement.specs.Agreed.{shownAgreement, shownCells}
-use Rattle.gateway.specs.Replies.{agreedNumbers}
+use Rattle.gateway_agreement.specs.Numbers.{agreedNumbers}
 
 -- number j of row i
 abbrev pub shownAt : List (List ℤ) → ℕ → ℕ → ℤ

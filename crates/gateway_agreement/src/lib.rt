@@ -1,6 +1,6 @@
-// Version agreement: key, chosen version and broker's maximum of three APIs, one row behind the other.
+// The C interface to version agreement: key, chosen version and broker's maximum of three APIs, one row behind the other.
 ghost use mathlib.Core.Path.{_≡_};
-ghost use Rattle.gateway.specs.Replies.{agreedNumbers};
+ghost use Rattle.gateway_agreement.specs.Numbers.{agreedNumbers};
 use agreement::agree;
 
 fn agreed(items: &[u64]) -> [i64; 9]

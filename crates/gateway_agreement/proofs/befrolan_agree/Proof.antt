@@ -1,7 +1,7 @@
 -- The nine numbers are stored as they are.
 use borrow.Author.Needs.{needs}
-use Rattle.gateway.proofs.versions.befrolan_agree.Statement.{statement}
-use Rattle.gateway.proofs.versions.befrolan_agree.Tie as tie
+use Rattle.gateway_agreement.proofs.befrolan_agree.Statement.{statement}
+use Rattle.gateway_agreement.proofs.befrolan_agree.Tie as tie
 
 agreed-requires : tie.Need-agreed-requires
 agreed-requires c κs = search needs
@@ -9,6 +9,5 @@ agreed-requires c κs = search needs
 returns : tie.Need-returns
 returns c = search needs
 
--- antt refused `befrolan-agree-spec` as it was built: the module's report says why
 pub befrolan-agree-spec : {M : Type 1} → statement M
 befrolan-agree-spec = tie.close (tie.spec agreed-requires returns)

@@ -1,0 +1,2 @@
+-- the numbers of the agreement, row behind row
+pub mod Numbers
