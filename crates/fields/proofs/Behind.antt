@@ -1,7 +1,7 @@
--- What stands behind a length: a field's reader, from what its length was and what the contents gave. One law over the form of the length and the kind of contents.
-use mathlib.Core.Bool.{Bool, false, true}
+-- What stands behind a length: a field's reader, from the length that was read and from the contents. One law where null is refused or empty and one where it is kept, over the form of the length and the kind of contents.
+use mathlib.Core.Bool.{Bool, cond, false, true}
 use mathlib.Core.List.{List}
-use mathlib.Core.Option.{Option, none, some}
+use mathlib.Core.Option.{none, some}
 use mathlib.Core.Path.{_∙_, _≡_, ap, refl, subst, sym}
 use Prim.Native.Nat.{_+_, _-_, _<_, _≤_, ℕ}
 use native.Mathlib.Nat.{add-zero, zero-add}
@@ -16,35 +16,33 @@ use Rattle.layout.specs.Tables.{Span}
 use Rattle.layout.proofs.Local.{raw-ok}
 use Rattle.layout.proofs.Steps.{checked-inv, raw-bad, then-bad, then-ok}
 use Rattle.layout.proofs.Tests.{one-more}
-use Rattle.fields.specs.Answers.{dataBehind, ofCount, somePart, textBehind}
+use Rattle.fields.specs.Answers.{dataBehind, keptBehind, ofCount, shownBehind, somePart, textBehind}
+use Rattle.primitives.specs.Answers.{ofRefusal}
 use Rattle.fields.specs.declared.Count.{Count}
 use Rattle.fields.proofs.Lengths.{checked-bad, checked-never, checked-null, checked-some, length-bad}
 
-module _ (len : Reader ℕ) (F : ℕ → Reader Span) (s : List ℕ) where
-  -- the contents behind the u bytes of the length
-  abbrev behind : ℕ → ℕ → Res Span
-  behind u n = placed 0 (more u (F n u (drop u s)))
+-- the contents behind the u bytes of the length
+abbrev behind : (ℕ → Reader Span) → ℕ → ℕ → List ℕ → Res Span
+behind F u n s = placed 0 (more u (F n u (drop u s)))
 
+module _ (len : Reader ℕ) (F : ℕ → Reader Span) (s : List ℕ) where
   from-0 : (n m u : ℕ) → n ≡ m → more u (F n (0 + u) (drop u s)) ≡ more u (F m u (drop u s))
   from-0 n m u e = λ i. more u (F (e i) (zero-add u i) (drop u s))
 
-  pub plain-some : (a : Bool) (e n u : ℕ) → len 0 s ≡ ok (n + 1) u → primitive (sized false a e len F) 0 s ≡ behind u n
+  plain-some : (a : Bool) (e n u : ℕ) → len 0 s ≡ ok (n + 1) u → primitive (sized false a e len F) 0 s ≡ behind F u n s
   unfolding sized primitive
   plain-some a e n u h = ap (placed 0) (then-ok (checked a e len) _ 0 s (n + 1) u (checked-some len s a e n u h) ∙ from-0 (n + 1 - 1) n u (omega arith))
 
-  pub plain-null : (e u : ℕ) → len 0 s ≡ ok 0 u → primitive (sized false true e len F) 0 s ≡ behind u 0
+  plain-null : (a : Bool) (e u : ℕ) → len 0 s ≡ ok 0 u → cond a (behind F u 0 s) (bad (because e 0)) ≡ primitive (sized false a e len F) 0 s
   unfolding sized primitive
-  plain-null e u h = ap (placed 0) (then-ok (checked true e len) _ 0 s 0 u (checked-null len s e u h) ∙ from-0 0 0 u refl)
+  plain-null true e u h = sym (ap (placed 0) (then-ok (checked true e len) _ 0 s 0 u (checked-null len s e u h) ∙ from-0 0 0 u refl))
+  plain-null false e u h = sym (ap (placed 0) (then-bad (checked false e len) _ 0 s (because e 0) (checked-never len s e u h)))
 
-  pub plain-never : (e u : ℕ) → len 0 s ≡ ok 0 u → primitive (sized false false e len F) 0 s ≡ bad (because e 0)
-  unfolding sized primitive
-  plain-never e u h = ap (placed 0) (then-bad (checked false e len) _ 0 s (because e 0) (checked-never len s e u h))
-
-  pub plain-bad : (a : Bool) (e : ℕ) (d : Refusal) → len 0 s ≡ bad d → primitive (sized false a e len F) 0 s ≡ bad (because (d .number) 0)
+  plain-bad : (a : Bool) (e : ℕ) (d : Refusal) → len 0 s ≡ bad d → primitive (sized false a e len F) 0 s ≡ bad (because (d .number) 0)
   unfolding sized primitive
   plain-bad a e d h = ap (placed 0) (then-bad (checked a e len) _ 0 s _ (checked-bad len s a e d h))
 
-  pub kept-bad : (a : Bool) (e : ℕ) (d : Refusal) → len 0 s ≡ bad d → primitive (sized true a e len F) 0 s ≡ bad (because (d .number) 0)
+  kept-bad : (a : Bool) (e : ℕ) (d : Refusal) → len 0 s ≡ bad d → primitive (sized true a e len F) 0 s ≡ bad (because (d .number) 0)
   unfolding sized primitive
   kept-bad a e d h = ap (placed 0) (then-bad (checked true e len) _ 0 s _ (checked-bad len s true e d h))
 
@@ -52,7 +50,7 @@ module _ (len : Reader ℕ) (F : ℕ → Reader Span) (s : List ℕ) where
   unfolding sized pick give
   null-inside a e u h = then-ok (checked true e len) _ 0 s 0 u (checked-null len s e u h) ∙ ap (λ (k : ℕ). ok none k) (add-zero u)
 
-  pub kept-null : (a : Bool) (e u : ℕ) → len 0 s ≡ ok 0 u → primitive (sized true a e len F) 0 s ≡ ok none u
+  kept-null : (a : Bool) (e u : ℕ) → len 0 s ≡ ok 0 u → primitive (sized true a e len F) 0 s ≡ ok none u
   unfolding primitive
   kept-null a e u h = ap (placed 0) (null-inside a e u h)
 
@@ -68,42 +66,28 @@ module _ (len : Reader ℕ) (F : ℕ → Reader Span) (s : List ℕ) where
       let m : n + 1 - 1 ≡ n = omega arith in
       then-ok (checked true e len) _ 0 s (n + 1) u (checked-some len s true e n u h) ∙ rw (one-more n) (λ i. more u (then (F (m i)) (λ x. give (some x)) (zero-add u i) (drop u s)))
 
-  pub kept-some : (a : Bool) (e n u : ℕ) → len 0 s ≡ ok (n + 1) u → primitive (sized true a e len F) 0 s ≡ somePart (behind u n)
+  kept-some : (a : Bool) (e n u : ℕ) → len 0 s ≡ ok (n + 1) u → primitive (sized true a e len F) 0 s ≡ somePart (behind F u n s)
   unfolding primitive then
   kept-some a e n u h = ap (placed 0) (some-inside a e n u h) ∙ some-out u (F n u (drop u s))
 
--- ---- what the length's step answered
+-- ---- and so what the field's reader gives: r is the length that was read, and k what it was
 
-module _ (len : Reader ℕ) (s : List ℕ) (r : Count) (h : ofCount r ≡ checked true 4 len 0 s) where
-  pub was-some : (n u : ℕ) → r ≡ Count.Took n u → len 0 s ≡ ok (n + 1) u
-  was-some n u e = checked-inv true 4 len 0 s (n + 1) u (sym h ∙ ap ofCount e)
+module _ (len : Reader ℕ) (s : List ℕ) (F : ℕ → Reader Span) (a : Bool) (e : ℕ) where
+  shown-of : (r : Count) → ofCount r ≡ checked true 4 len 0 s → shownBehind (behind F) a e s r ≡ primitive (sized false a e len F) 0 s
+  shown-of (Count.Took n u) h = sym (plain-some len F s a e n u (checked-inv true 4 len 0 s (n + 1) u (sym h)))
+  shown-of (Count.Null u) h = plain-null len F s a e u (checked-inv true 4 len 0 s 0 u (sym h))
+  shown-of (Count.Refused c) h = let b = length-bad len s 4 (ofRefusal c) (sym h) in ap bad (b .2) ∙ sym (plain-bad len F s a e (b .0) (b .1))
 
-  pub was-null : (u : ℕ) → r ≡ Count.Null u → len 0 s ≡ ok 0 u
-  was-null u e = checked-inv true 4 len 0 s 0 u (sym h ∙ ap ofCount e)
+  pub shown-is : (r : Count) → ofCount r ≡ checked true 4 len 0 s → (k : Count) → r ≡ k → shownBehind (behind F) a e s k ≡ primitive (sized false a e len F) 0 s
+  shown-is r h k i = ap (shownBehind (behind F) a e s) (sym i) ∙ shown-of r h
 
-  -- ---- and so what the field's reader gives
+  kept-of : (r : Count) → ofCount r ≡ checked true 4 len 0 s → keptBehind (behind F) s r ≡ primitive (sized true a e len F) 0 s
+  kept-of (Count.Took n u) h = sym (kept-some len F s a e n u (checked-inv true 4 len 0 s (n + 1) u (sym h)))
+  kept-of (Count.Null u) h = sym (kept-null len F s a e u (checked-inv true 4 len 0 s 0 u (sym h)))
+  kept-of (Count.Refused c) h = let b = length-bad len s 4 (ofRefusal c) (sym h) in ap bad (b .2) ∙ sym (kept-bad len F s a e (b .0) (b .1))
 
-  module _ (F : ℕ → Reader Span) where
-    pub plain-took : (a : Bool) (e n u : ℕ) → r ≡ Count.Took n u → (o : Res Span) → o ≡ behind len F s u n → o ≡ primitive (sized false a e len F) 0 s
-    plain-took a e n u i o d = d ∙ sym (plain-some len F s a e n u (was-some n u i))
-
-    pub plain-empty : (e u : ℕ) → r ≡ Count.Null u → (o : Res Span) → o ≡ behind len F s u 0 → o ≡ primitive (sized false true e len F) 0 s
-    plain-empty e u i o d = d ∙ sym (plain-null len F s e u (was-null u i))
-
-    pub plain-below : (e u : ℕ) → r ≡ Count.Null u → (c : Refusal) → c ≡ because e 0 → bad c ≡ primitive (sized false false e len F) 0 s
-    plain-below e u i c d = ap bad d ∙ sym (plain-never len F s e u (was-null u i))
-
-    pub plain-refused : (a : Bool) (e : ℕ) (c : Refusal) → ofCount r ≡ bad c → bad c ≡ primitive (sized false a e len F) 0 s
-    plain-refused a e c i = let b = length-bad len s 4 c (sym h ∙ i) in ap bad (b .2) ∙ sym (plain-bad len F s a e (b .0) (b .1))
-
-    pub kept-took : (a : Bool) (e n u : ℕ) → r ≡ Count.Took n u → (o : Res (Option Span)) (q : Res Span) → o ≡ somePart q → q ≡ behind len F s u n → o ≡ primitive (sized true a e len F) 0 s
-    kept-took a e n u i o q d g = d ∙ ap somePart g ∙ sym (kept-some len F s a e n u (was-some n u i))
-
-    pub kept-none : (a : Bool) (e u : ℕ) → r ≡ Count.Null u → ok none u ≡ primitive (sized true a e len F) 0 s
-    kept-none a e u i = sym (kept-null len F s a e u (was-null u i))
-
-    pub kept-refused : (a : Bool) (e : ℕ) (c : Refusal) → ofCount r ≡ bad c → bad c ≡ primitive (sized true a e len F) 0 s
-    kept-refused a e c i = let b = length-bad len s 4 c (sym h ∙ i) in ap bad (b .2) ∙ sym (kept-bad len F s a e (b .0) (b .1))
+  pub kept-is : (r : Count) → ofCount r ≡ checked true 4 len 0 s → (k : Count) → r ≡ k → keptBehind (behind F) s k ≡ primitive (sized true a e len F) 0 s
+  kept-is r h k i = ap (keptBehind (behind F) s) (sym i) ∙ kept-of r h
 
 -- ---- the contents
 

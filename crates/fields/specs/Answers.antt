@@ -3,7 +3,7 @@ use mathlib.Core.Option.{Option, none, some}
 use Prim.Native.Nat.{_+_, ℕ}
 use lib.ListN.{drop}
 use lib.Dec.{eqb, ltb}
-use mathlib.Core.Bool.{cond, false, true}
+use mathlib.Core.Bool.{Bool, cond, false, true}
 use mathlib.Core.List.{List}
 use Rattle.layout.specs.Reading.{Reader, Res, bad, because, more, ok, placed}
 use Rattle.layout.specs.Primitives.{Size, checked, lengthOf, unsigned}
@@ -56,6 +56,18 @@ textBehind u n s = placed 0 (more u (readText (byPlace false) n u (drop u s)))
 abbrev pub somePart : Res Span → Res (Option Span)
 somePart (ok x n) = ok (some x) n
 somePart (bad e) = bad e
+
+-- what b reads behind a length: with a null is as if the length were 0, else it is refused with e
+abbrev pub shownBehind : (ℕ → ℕ → List ℕ → Res Span) → Bool → ℕ → List ℕ → Count → Res Span
+shownBehind b a e s (Count.Took k n) = b n k s
+shownBehind b a e s (Count.Null n) = cond a (b n 0 s) (bad (because e 0))
+shownBehind b a e s (Count.Refused c) = bad (ofRefusal c)
+
+-- the same, where null is a value of its own
+abbrev pub keptBehind : (ℕ → ℕ → List ℕ → Res Span) → List ℕ → Count → Res (Option Span)
+keptBehind b s (Count.Took k n) = somePart (b n k s)
+keptBehind b s (Count.Null n) = ok none n
+keptBehind b s (Count.Refused c) = bad (ofRefusal c)
 
 -- a field that the version has
 abbrev pub there : Res (Option Span) → Res (Option (Option Span))

@@ -5,7 +5,7 @@ ghost use lib.ListN.{drop};
 ghost use Rattle.layout.specs.Primitives.{compact, empty, fixed, kept, never, w32};
 ghost use Rattle.layout.specs.Rows.{blob};
 ghost use Rattle.layout.specs.Read.{byPlace, readBasic};
-ghost use Rattle.fields.specs.Answers.{dataBehind, ofNullable, ofPart, somePart, there};
+ghost use Rattle.fields.specs.Answers.{dataBehind, ofNullable, ofPart, shownBehind, somePart, there};
 use crate::Count;
 use crate::Field;
 use crate::Nullable;
@@ -42,14 +42,27 @@ fn contents(s: &[u8], used: usize, count: u64) -> Part
     }
 }
 
+// Data behind the length that was read, where null is refused with a number.
+fn data_of(s: &[u8], c: Count, null: u8) -> Part
+    ensures { λ r. ⌜ ofPart r ≡ shownBehind dataBehind false null (now (s .entry)) c ⌝ }
+{
+    match c {
+        Count::Took { count, used } => contents(s, used, count),
+        Count::Null { used: _ } => Part::Refused(at(null, 0)),
+        Count::Refused(e) => Part::Refused(e),
+    }
+}
+
 pub fn bytes(s: &[u8]) -> Part
     ensures { λ r. ⌜ ofPart r ≡ readBasic (byPlace false) (blob (fixed w32 never)) 0 (now (s .entry)) ⌝ }
 {
-    match counts::length32(s) {
-        Count::Took { count, used } => contents(s, used, count),
-        Count::Null { used: _ } => Part::Refused(at(LENGTH_BELOW, 0)),
-        Count::Refused(e) => Part::Refused(e),
-    }
+    data_of(s, counts::length32(s), LENGTH_BELOW)
+}
+
+pub fn compact_bytes(s: &[u8]) -> Part
+    ensures { λ r. ⌜ ofPart r ≡ readBasic (byPlace false) (blob (compact never)) 0 (now (s .entry)) ⌝ }
+{
+    data_of(s, counts::compact_length(s), LENGTH_ZERO)
 }
 
 pub fn nullable_bytes(s: &[u8]) -> Nullable
@@ -74,16 +87,6 @@ pub fn present(p: Part) -> Nullable
             used,
         },
         Part::Refused(e) => Nullable::Refused(e),
-    }
-}
-
-pub fn compact_bytes(s: &[u8]) -> Part
-    ensures { λ r. ⌜ ofPart r ≡ readBasic (byPlace false) (blob (compact never)) 0 (now (s .entry)) ⌝ }
-{
-    match counts::compact_length(s) {
-        Count::Took { count, used } => contents(s, used, count),
-        Count::Null { used: _ } => Part::Refused(at(LENGTH_ZERO, 0)),
-        Count::Refused(e) => Part::Refused(e),
     }
 }
 

@@ -4,7 +4,7 @@ ghost use mathlib.Core.Bool.{false};
 ghost use Rattle.layout.specs.Primitives.{compact, fixed, kept, never, w16};
 ghost use Rattle.layout.specs.Rows.{text};
 ghost use Rattle.layout.specs.Read.{byPlace, readBasic};
-ghost use Rattle.fields.specs.Answers.{ofNullable, ofPart, textBehind, there};
+ghost use Rattle.fields.specs.Answers.{keptBehind, ofNullable, ofPart, shownBehind, textBehind, there};
 use crate::Count;
 use crate::Field;
 use crate::Nullable;
@@ -35,48 +35,51 @@ fn characters(s: &[u8], used: usize, count: u64) -> Part
     Part::Refused(at(NOT_TEXT, 0))
 }
 
+// A text behind the length that was read, where null is refused with a number.
+fn text_of(s: &[u8], c: Count, null: u8) -> Part
+    ensures { λ r. ⌜ ofPart r ≡ shownBehind textBehind false null (now (s .entry)) c ⌝ }
+{
+    match c {
+        Count::Took { count, used } => characters(s, used, count),
+        Count::Null { used: _ } => Part::Refused(at(null, 0)),
+        Count::Refused(e) => Part::Refused(e),
+    }
+}
+
 pub fn string(s: &[u8]) -> Part
     ensures { λ r. ⌜ ofPart r ≡ readBasic (byPlace false) (text (fixed w16 never)) 0 (now (s .entry)) ⌝ }
 {
-    match counts::length16(s) {
-        Count::Took { count, used } => characters(s, used, count),
-        Count::Null { used: _ } => Part::Refused(at(LENGTH_BELOW, 0)),
-        Count::Refused(e) => Part::Refused(e),
-    }
+    text_of(s, counts::length16(s), LENGTH_BELOW)
 }
 
 pub fn compact_string(s: &[u8]) -> Part
     ensures { λ r. ⌜ ofPart r ≡ readBasic (byPlace false) (text (compact never)) 0 (now (s .entry)) ⌝ }
 {
-    match counts::compact_length(s) {
-        Count::Took { count, used } => characters(s, used, count),
-        Count::Null { used: _ } => Part::Refused(at(LENGTH_ZERO, 0)),
-        Count::Refused(e) => Part::Refused(e),
+    text_of(s, counts::compact_length(s), LENGTH_ZERO)
+}
+
+// Null is a value of its own.
+fn nullable_text(s: &[u8], c: Count) -> Nullable
+    ensures { λ r. ⌜ ofNullable r ≡ there (keptBehind textBehind (now (s .entry)) c) ⌝ }
+{
+    match c {
+        Count::Took { count, used } => parts::present(characters(s, used, count)),
+        Count::Null { used } => Nullable::Took {
+            field: Field::Null,
+            used,
+        },
+        Count::Refused(e) => Nullable::Refused(e),
     }
 }
 
 pub fn nullable_string(s: &[u8]) -> Nullable
     ensures { λ r. ⌜ ofNullable r ≡ there (readBasic (byPlace false) (text (fixed w16 kept)) 0 (now (s .entry))) ⌝ }
 {
-    match counts::length16(s) {
-        Count::Took { count, used } => parts::present(characters(s, used, count)),
-        Count::Null { used } => Nullable::Took {
-            field: Field::Null,
-            used,
-        },
-        Count::Refused(e) => Nullable::Refused(e),
-    }
+    nullable_text(s, counts::length16(s))
 }
 
 pub fn compact_nullable_string(s: &[u8]) -> Nullable
     ensures { λ r. ⌜ ofNullable r ≡ there (readBasic (byPlace false) (text (compact kept)) 0 (now (s .entry))) ⌝ }
 {
-    match counts::compact_length(s) {
-        Count::Took { count, used } => parts::present(characters(s, used, count)),
-        Count::Null { used } => Nullable::Took {
-            field: Field::Null,
-            used,
-        },
-        Count::Refused(e) => Nullable::Refused(e),
-    }
+    nullable_text(s, counts::compact_length(s))
 }

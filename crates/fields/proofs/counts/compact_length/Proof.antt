@@ -1,3 +1,4 @@
+-- The varint is one more than the length: 0 is null, and what the varint refuses is refused.
 use mathlib.Core.Path.{_∙_, ap, sym}
 use Rattle.layout.specs.Primitives.{kept}
 use Rattle.primitives.specs.Answers.{ofNumber}

@@ -1,3 +1,4 @@
+-- So many bytes are left, or they end, which is refused at the length's start.
 use mathlib.Core.Path.{ap}
 use native.Mathlib.Omega.{arith}
 use lib.ListN.{length, length-drop}

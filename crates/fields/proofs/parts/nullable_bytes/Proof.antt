@@ -1,9 +1,10 @@
+-- Each way out is a case of the length that was read.
 use mathlib.Core.Bool.{false, true}
-use mathlib.Core.Path.{_∙_, ap, refl}
+use mathlib.Core.Path.{_∙_, ap}
 use Rattle.layout.specs.Primitives.{fixed, kept, lengthOf, unsigned, w32}
 use Rattle.layout.specs.Read.{byPlace, readBasic, readBlob}
-use Rattle.fields.specs.Answers.{counted, dataBehind, ofCount, there}
-use Rattle.fields.proofs.Behind.{kept-none, kept-refused, kept-took}
+use Rattle.fields.specs.Answers.{counted, dataBehind, somePart, there}
+use Rattle.fields.proofs.Behind.{kept-is}
 use borrow.Author.Needs.{needs}
 use Rattle.fields.proofs.parts.nullable_bytes.Statement.{statement}
 use Rattle.fields.proofs.parts.nullable_bytes.Tie as tie
@@ -28,15 +29,15 @@ enum-known-e c = search needs
 
 returns : tie.Need-returns
 unfolding readBasic counted dataBehind lengthOf
-returns c = c .present .ensures ∙ ap there (kept-took (lengthOf unsigned (fixed w32 kept)) _ _ (c .before .before .before .before .before .length32 .ensures) (readBlob (byPlace false)) true 4 _ _ (c .before .before .before .count .given .1) _ _ refl (c .before .contents .ensures))
+returns c = c .present .ensures ∙ ap there (ap somePart (c .before .contents .ensures) ∙ kept-is (lengthOf unsigned (fixed w32 kept)) _ (readBlob (byPlace false)) true 4 _ (c .before .before .before .before .before .length32 .ensures) _ (c .before .before .before .count .given .1))
 
 returns-2 : tie.Need-returns-2
 unfolding readBasic counted dataBehind lengthOf
-returns-2 c = ap there (kept-none (lengthOf unsigned (fixed w32 kept)) _ _ (c .before .before .before .length32 .ensures) (readBlob (byPlace false)) true 4 _ (c .before .used .given .1))
+returns-2 c = ap there (kept-is (lengthOf unsigned (fixed w32 kept)) _ (readBlob (byPlace false)) true 4 _ (c .before .before .before .length32 .ensures) _ (c .before .used .given .1))
 
 returns-3 : tie.Need-returns-3
 unfolding readBasic counted dataBehind lengthOf
-returns-3 c = ap there (kept-refused (lengthOf unsigned (fixed w32 kept)) _ (c .before .before .before .length32 .result) (c .before .before .before .length32 .ensures) (readBlob (byPlace false)) true 4 _ (ap ofCount (c .before .e .given .1)))
+returns-3 c = ap there (kept-is (lengthOf unsigned (fixed w32 kept)) _ (readBlob (byPlace false)) true 4 _ (c .before .before .before .length32 .ensures) _ (c .before .e .given .1))
 
 pub nullable-bytes-spec : {M : Type 1} → statement M
 nullable-bytes-spec =

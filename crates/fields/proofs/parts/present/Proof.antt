@@ -1,3 +1,4 @@
+-- Each case of the part is a case of the definition.
 use mathlib.Core.Path.{ap, sym}
 use Rattle.fields.specs.Answers.{ofPart, somePart, there}
 use Rattle.fields.specs.declared.Part.{Part}

@@ -1,9 +1,10 @@
+-- Each way out is a case of the length that was read.
 use mathlib.Core.Bool.{false, true}
-use mathlib.Core.Path.{ap}
+use mathlib.Core.Path.{_∙_}
 use Rattle.layout.specs.Primitives.{empty, fixed, lengthOf, unsigned, w32}
 use Rattle.layout.specs.Read.{byPlace, readBasic, readBlob}
-use Rattle.fields.specs.Answers.{counted, dataBehind, ofCount}
-use Rattle.fields.proofs.Behind.{plain-empty, plain-refused, plain-took}
+use Rattle.fields.specs.Answers.{counted, dataBehind}
+use Rattle.fields.proofs.Behind.{shown-is}
 use borrow.Author.Needs.{needs}
 use Rattle.fields.proofs.parts.records.Statement.{statement}
 use Rattle.fields.proofs.parts.records.Tie as tie
@@ -28,15 +29,15 @@ enum-known-e c = search needs
 
 returns : tie.Need-returns
 unfolding readBasic counted dataBehind lengthOf
-returns c = plain-took (lengthOf unsigned (fixed w32 empty)) _ _ (c .before .before .before .before .length32 .ensures) (readBlob (byPlace false)) true 8 _ _ (c .before .before .count .given .1) _ (c .contents .ensures)
+returns c = c .contents .ensures ∙ shown-is (lengthOf unsigned (fixed w32 empty)) _ (readBlob (byPlace false)) true 8 _ (c .before .before .before .before .length32 .ensures) _ (c .before .before .count .given .1)
 
 returns-2 : tie.Need-returns-2
 unfolding readBasic counted dataBehind lengthOf
-returns-2 c = plain-empty (lengthOf unsigned (fixed w32 empty)) _ _ (c .before .before .before .before .length32 .ensures) (readBlob (byPlace false)) 8 _ (c .before .before .used .given .1) _ (c .contents2 .ensures)
+returns-2 c = c .contents2 .ensures ∙ shown-is (lengthOf unsigned (fixed w32 empty)) _ (readBlob (byPlace false)) true 8 _ (c .before .before .before .before .length32 .ensures) _ (c .before .before .used .given .1)
 
 returns-3 : tie.Need-returns-3
 unfolding readBasic counted dataBehind lengthOf
-returns-3 c = plain-refused (lengthOf unsigned (fixed w32 empty)) _ (c .before .before .before .length32 .result) (c .before .before .before .length32 .ensures) (readBlob (byPlace false)) true 8 _ (ap ofCount (c .before .e .given .1))
+returns-3 c = shown-is (lengthOf unsigned (fixed w32 empty)) _ (readBlob (byPlace false)) true 8 _ (c .before .before .before .length32 .ensures) _ (c .before .e .given .1)
 
 pub records-spec : {M : Type 1} → statement M
 records-spec =

@@ -1,3 +1,4 @@
+-- Inside the slice its end from there on, and behind it nothing.
 use Rattle.fields.proofs.Rest.{rest-in, rest-out}
 use borrow.Author.Needs.{needs}
 use Rattle.fields.proofs.parts.rest.Statement.{statement}

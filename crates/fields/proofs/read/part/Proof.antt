@@ -1,3 +1,4 @@
+-- What is left from the start on, cut where the part ends inside it.
 use mathlib.Core.Path.{_∙_, ap, sym}
 use lib.ListN.{take}
 use lib.Seq.{length-take-le, take-all}

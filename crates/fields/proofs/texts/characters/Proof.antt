@@ -1,3 +1,4 @@
+-- So many bytes are left and are text, or one of the two fails, which is refused at the length's start.
 use mathlib.Core.Path.{_∙_, ap, sym}
 use native.Mathlib.Omega.{arith}
 use lib.ListN.{length, length-drop}

@@ -1,9 +1,10 @@
+-- The length is read, and what stands behind it is what the field shows.
 use mathlib.Core.Bool.{false, true}
 use mathlib.Core.Path.{_∙_, ap, refl}
 use Rattle.layout.specs.Primitives.{compact, kept, lengthOf, unsigned}
 use Rattle.layout.specs.Read.{byPlace, readBasic, readText}
-use Rattle.fields.specs.Answers.{counted, textBehind, ofCount, there}
-use Rattle.fields.proofs.Behind.{kept-none, kept-refused, kept-took}
+use Rattle.fields.specs.Answers.{counted, textBehind, there}
+use Rattle.fields.proofs.Behind.{kept-is}
 use borrow.Author.Needs.{needs}
 use Rattle.fields.proofs.texts.compact_nullable_string.Statement.{statement}
 use Rattle.fields.proofs.texts.compact_nullable_string.Tie as tie
@@ -11,43 +12,13 @@ use Rattle.fields.proofs.texts.compact_nullable_string.Tie as tie
 compact-length-requires : tie.Need-compact-length-requires
 compact-length-requires c κs = search needs
 
-enum-known-count : tie.Need-enum-known-count
-enum-known-count c = search needs
-
-characters-requires : tie.Need-characters-requires
-characters-requires c κs = search needs
-
-present-requires : tie.Need-present-requires
-present-requires c κs = search needs
-
-enum-known-used : tie.Need-enum-known-used
-enum-known-used c = search needs
-
-enum-known-e : tie.Need-enum-known-e
-enum-known-e c = search needs
+nullable-text-requires : tie.Need-nullable-text-requires
+nullable-text-requires c κs = search needs
 
 returns : tie.Need-returns
 unfolding readBasic counted textBehind lengthOf
-returns c = c .present .ensures ∙ ap there (kept-took (lengthOf unsigned (compact kept)) _ _ (c .before .before .before .before .before .compact-length .ensures) (readText (byPlace false)) true 6 _ _ (c .before .before .before .count .given .1) _ _ refl (c .before .characters .ensures))
-
-returns-2 : tie.Need-returns-2
-unfolding readBasic counted textBehind lengthOf
-returns-2 c = ap there (kept-none (lengthOf unsigned (compact kept)) _ _ (c .before .before .before .compact-length .ensures) (readText (byPlace false)) true 6 _ (c .before .used .given .1))
-
-returns-3 : tie.Need-returns-3
-unfolding readBasic counted textBehind lengthOf
-returns-3 c = ap there (kept-refused (lengthOf unsigned (compact kept)) _ (c .before .before .before .compact-length .result) (c .before .before .before .compact-length .ensures) (readText (byPlace false)) true 6 _ (ap ofCount (c .before .e .given .1)))
+returns c = c .nullable-text .ensures ∙ ap there (kept-is (lengthOf unsigned (compact kept)) _ (readText (byPlace false)) true 6 (c .before .compact-length .result) (c .before .compact-length .ensures) _ refl)
 
 pub compact-nullable-string-spec : {M : Type 1} → statement M
 compact-nullable-string-spec =
-    tie.close
-    (tie.spec
-    compact-length-requires
-    enum-known-count
-    characters-requires
-    present-requires
-    enum-known-used
-    enum-known-e
-    returns
-    returns-2
-    returns-3)
+    tie.close (tie.spec compact-length-requires nullable-text-requires returns)
