@@ -92,28 +92,28 @@ module _ (len : Reader ℕ) (s : List ℕ) (F : ℕ → Reader Span) (a : Bool) 
 -- ---- the contents
 
 module _ (s left : List ℕ) (u n : ℕ) (i : left ≡ drop u s) where
-  -- made by G of the place and the bytes
-  abbrev part : (ℕ → List ℕ → Reader Span) → Res Span
-  part G = placed 0 (more u (here (λ p. then (raw n) (G p)) u (drop u s)))
+  -- made by G of the place and the bytes, and refused at p
+  abbrev part : ℕ → (ℕ → List ℕ → Reader Span) → Res Span
+  part p G = placed p (more u (here (λ p. then (raw n) (G p)) u (drop u s)))
 
-  part-short : (G : ℕ → List ℕ → Reader Span) (c : Refusal) → c ≡ because 3 0 → length left < n → bad c ≡ part G
+  part-short : (p : ℕ) (G : ℕ → List ℕ → Reader Span) (c : Refusal) → c ≡ because 3 p → length left < n → bad c ≡ part p G
   unfolding here
-  part-short G c e h = ap bad e ∙ sym (ap (λ o. placed 0 (more u o)) (then-bad (raw n) _ u (drop u s) (because 3 u) (raw-bad n u (drop u s) (subst (λ (t : List ℕ). length t < n) i h))))
+  part-short p G c e h = ap bad e ∙ sym (ap (λ o. placed p (more u o)) (then-bad (raw n) _ u (drop u s) (because 3 u) (raw-bad n u (drop u s) (subst (λ (t : List ℕ). length t < n) i h))))
 
-  part-is : (G : ℕ → List ℕ → Reader Span) → n ≤ length left → part G ≡ placed 0 (more u (more n (G u (take n (drop u s)) (u + n) (drop n (drop u s)))))
+  part-is : (p : ℕ) (G : ℕ → List ℕ → Reader Span) → n ≤ length left → part p G ≡ placed p (more u (more n (G u (take n (drop u s)) (u + n) (drop n (drop u s)))))
   unfolding here
-  part-is G h = ap (λ o. placed 0 (more u o)) (then-ok (raw n) _ u (drop u s) (take n (drop u s)) n (raw-ok n u (drop u s) (subst (λ (t : List ℕ). n ≤ length t) i h)))
+  part-is p G h = ap (λ o. placed p (more u o)) (then-ok (raw n) _ u (drop u s) (take n (drop u s)) n (raw-ok n u (drop u s) (subst (λ (t : List ℕ). n ≤ length t) i h)))
 
   shown : n ≤ length left → _≡_ {A = Res Span} (ok (u, length (take n (drop u s))) (u + (n + 0))) (ok (u, n) (u + n))
   shown h = λ t. ok (u, length-take-le n (drop u s) (subst (λ (q : List ℕ). n ≤ length q) i h) t) (u + add-zero n t)
 
-  pub data-short : (c : Refusal) → c ≡ because 3 0 → length left < n → bad c ≡ dataBehind u n s
+  pub data-short : (p : ℕ) (c : Refusal) → c ≡ because 3 p → length left < n → bad c ≡ dataBehind p u n s
   unfolding dataBehind readBlob
-  data-short = part-short (λ p b. give (p, length b))
+  data-short p = part-short p (λ p b. give (p, length b))
 
-  pub data-is : n ≤ length left → ok (u, n) (u + n) ≡ dataBehind u n s
+  pub data-is : (p : ℕ) → n ≤ length left → ok (u, n) (u + n) ≡ dataBehind p u n s
   unfolding dataBehind readBlob give
-  data-is h = sym (part-is (λ p b. give (p, length b)) h ∙ shown h)
+  data-is p h = sym (part-is p (λ p b. give (p, length b)) h ∙ shown h)
 
   -- text, well-formed or not
   abbrev judge : ℕ → List ℕ → Reader Span
@@ -121,12 +121,12 @@ module _ (s left : List ℕ) (u n : ℕ) (i : left ≡ drop u s) where
 
   pub text-short : (c : Refusal) → c ≡ because 3 0 → length left < n → bad c ≡ textBehind u n s
   unfolding textBehind readText
-  text-short = part-short judge
+  text-short = part-short 0 judge
 
   pub text-is : n ≤ length left → true ≡ utf8 (take n left) → ok (u, n) (u + n) ≡ textBehind u n s
   unfolding textBehind readText pick give
-  text-is h w = sym (part-is judge h ∙ rw (ap (λ (t : List ℕ). utf8 (take n t)) (sym i) ∙ sym w) (shown h))
+  text-is h w = sym (part-is 0 judge h ∙ rw (ap (λ (t : List ℕ). utf8 (take n t)) (sym i) ∙ sym w) (shown h))
 
   pub text-not : n ≤ length left → false ≡ utf8 (take n left) → (c : Refusal) → c ≡ because 7 0 → bad c ≡ textBehind u n s
   unfolding textBehind readText pick fail
-  text-not h w c e = ap bad e ∙ sym (part-is judge h ∙ rw (ap (λ (t : List ℕ). utf8 (take n t)) (sym i) ∙ sym w))
+  text-not h w c e = ap bad e ∙ sym (part-is 0 judge h ∙ rw (ap (λ (t : List ℕ). utf8 (take n t)) (sym i) ∙ sym w))

@@ -45,11 +45,11 @@ ofLength half null (Number.Refused e) = bad (ofRefusal e)
 unfoldable pub counted : Size → Reader ℕ
 counted z = checked true 4 (lengthOf unsigned z)
 
--- data of n bytes behind the u bytes of its length, refused at the length's start
-unfoldable pub dataBehind : ℕ → ℕ → List ℕ → Res Span
-dataBehind u n s = placed 0 (more u (readBlob (byPlace false) n u (drop u s)))
+-- data of n bytes at place u, behind their length at place p, where they are refused
+unfoldable pub dataBehind : ℕ → ℕ → ℕ → List ℕ → Res Span
+dataBehind p u n s = placed p (more u (readBlob (byPlace false) n u (drop u s)))
 
--- text of n bytes, likewise
+-- text of n bytes behind the u bytes of its length, likewise
 unfoldable pub textBehind : ℕ → ℕ → List ℕ → Res Span
 textBehind u n s = placed 0 (more u (readText (byPlace false) n u (drop u s)))
 

@@ -27,12 +27,13 @@ pub fn rest(s: &[u8], used: usize) -> &[u8]
     }
 }
 
-fn contents(s: &[u8], used: usize, count: u64) -> Part
-    ensures { λ r. ⌜ ofPart r ≡ dataBehind used count (now (s .entry)) ⌝ }
+// `count` bytes behind `used`. Where they end before, the refusal is at the place of their length.
+pub fn contents(s: &[u8], place: usize, used: usize, count: u64) -> Part
+    ensures { λ r. ⌜ ofPart r ≡ dataBehind place used count (now (s .entry)) ⌝ }
 {
     let left = rest(s, used);
     if (left.len() as u64) < count {
-        return Part::Refused(at(BYTES_END, 0));
+        return Part::Refused(at(BYTES_END, place));
     }
     let len = count as usize;
     Part::Took {
@@ -44,10 +45,10 @@ fn contents(s: &[u8], used: usize, count: u64) -> Part
 
 // Data behind the length that was read, where null is refused with a number.
 fn data_of(s: &[u8], c: Count, null: u8) -> Part
-    ensures { λ r. ⌜ ofPart r ≡ shownBehind dataBehind false null (now (s .entry)) c ⌝ }
+    ensures { λ r. ⌜ ofPart r ≡ shownBehind (dataBehind 0) false null (now (s .entry)) c ⌝ }
 {
     match c {
-        Count::Took { count, used } => contents(s, used, count),
+        Count::Took { count, used } => contents(s, 0, used, count),
         Count::Null { used: _ } => Part::Refused(at(null, 0)),
         Count::Refused(e) => Part::Refused(e),
     }
@@ -69,7 +70,7 @@ pub fn nullable_bytes(s: &[u8]) -> Nullable
     ensures { λ r. ⌜ ofNullable r ≡ there (readBasic (byPlace false) (blob (fixed w32 kept)) 0 (now (s .entry))) ⌝ }
 {
     match counts::length32(s) {
-        Count::Took { count, used } => present(contents(s, used, count)),
+        Count::Took { count, used } => present(contents(s, 0, used, count)),
         Count::Null { used } => Nullable::Took {
             field: Field::Null,
             used,
@@ -95,8 +96,8 @@ pub fn records(s: &[u8]) -> Part
     ensures { λ r. ⌜ ofPart r ≡ readBasic (byPlace false) (blob (fixed w32 empty)) 0 (now (s .entry)) ⌝ }
 {
     match counts::length32(s) {
-        Count::Took { count, used } => contents(s, used, count),
-        Count::Null { used } => contents(s, used, 0),
+        Count::Took { count, used } => contents(s, 0, used, count),
+        Count::Null { used } => contents(s, 0, used, 0),
         Count::Refused(e) => Part::Refused(e),
     }
 }

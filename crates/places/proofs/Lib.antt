@@ -6,3 +6,5 @@ pub mod Fronts
 pub mod Counts
 -- texts and data
 pub mod PartAt
+-- data behind a length with no null
+pub mod DataAt

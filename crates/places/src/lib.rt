@@ -1,7 +1,7 @@
 // Primitives at a place of a message, as walks over a body read them: each is read on the rest from the place on, and its answer counts from the message's start.
 ghost use mathlib.Core.Bool.{false};
 ghost use mathlib.Core.Path.{_≡_};
-ghost use Rattle.layout.specs.Primitives.{cell, compact, empty, fixed, flag, kept, never, unsigned, w16, w32, w64};
+ghost use Rattle.layout.specs.Primitives.{cell, compact, empty, fixed, flag, kept, never, plain, unsigned, w16, w32, w64};
 ghost use Rattle.layout.specs.Read.{byPlace, readBasic};
 ghost use Rattle.layout.specs.Rows.{blob, text};
 ghost use Rattle.primitives.specs.Answers.{ofFlag, ofNumber};
@@ -143,6 +143,16 @@ pub fn records_at(s: &[u8], p: usize) -> Part
     ensures { λ r. ⌜ ofPart r ≡ on (readBasic (byPlace false) (blob (fixed w32 empty))) (now (s .entry)) p ⌝ }
 {
     part_moved(parts::records(parts::rest(s, p)), p)
+}
+
+// Data behind their length as an unsigned varint, which is read as `varint_at` reads it: most have one byte.
+pub fn data_at(s: &[u8], p: usize) -> Part
+    ensures { λ r. ⌜ ofPart r ≡ on (readBasic (byPlace false) (blob plain)) (now (s .entry)) p ⌝ }
+{
+    match varint_at(s, p) {
+        Number::Took { value, used } => parts::contents(s, p, used, value),
+        Number::Refused(e) => Part::Refused(e),
+    }
 }
 
 fn start_moved(field: Field, p: usize) -> Field

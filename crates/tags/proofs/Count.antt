@@ -15,11 +15,11 @@ use Rattle.rows.specs.Store.{State, Tab, add, store, tab}
 use Rattle.rows.specs.Walk.{Place, Places, Runs, on, walk}
 use Rattle.rows.proofs.Arrays.{array-no, array-no-count, array-took, row-end}
 use Rattle.rows.proofs.Chains.{give-took}
+use Rattle.places.proofs.DataAt.{length-no, length-took}
 use Rattle.places.proofs.Fronts.{byte-at}
 use Rattle.tags.specs.Answers.{inTable, inTableIs, inTables, inTablesIs, tagShape, tagsShape}
 use Rattle.tags.specs.declared.Tags.{Tags}
 use Rattle.tags.specs.declared.Walked.{Walked}
-use Rattle.tags.proofs.Data.{length-no, length-took}
 
 -- the table of tags, where the row has their number
 behind : Places → Tab → ℕ → Place
@@ -27,7 +27,7 @@ behind w x n = record { h = λ y. w .h (store x (n ∷ [])) y; o = w .t; law = �
 
 module _ (s : List ℕ) (p : ℕ) (l : List ℕ) (k : ℕ) where
   pub buffer-no-count : (c : Refusal) → bad c ≡ on unsigned s p → Runs (λ e. walk (e .0) (tagsShape (e .1 .t)) (e .1 .o)) s p (inTables l k) (λ e. bad c)
-  buffer-no-count c h = record { law = λ e. array-no-count (e .0) plain (e .1 .t) tagShape end (e .1 .o) (inTables l k e) s p c (length-no s p false 6 c h) }
+  buffer-no-count c h = record { law = λ e. array-no-count (e .0) plain (e .1 .t) tagShape end (e .1 .o) (inTables l k e) s p c (length-no s p c h) }
 
   module _ (n q : ℕ) (d : ok n q ≡ on unsigned s p) (l′ : List ℕ) (r : Tags) (h : Runs (λ e. loop n (walk (e .0) tagShape (e .1 .o))) s q (inTable l k) (inTableIs l′ r)) where
     looped : (e : Bool × Places × Tab) → inTableIs l′ r (e .0, behind (e .1) (e .2) n) ≡ on (loop (n + 1 - 1) (walk (e .0) tagShape (e .1 .t)) (add (e .1 .o) (countCell false (n + 1) ∷ []) (inTables l k e))) s q
@@ -39,12 +39,12 @@ module _ (s : List ℕ) (p : ℕ) (l : List ℕ) (k : ℕ) where
         ∙ ap (λ (j : ℕ). on (loop j (walk (e .0) tagShape (e .1 .t)) (add (e .1 .o) (j ∷ []) (inTables l k e))) s q) m
 
     pub buffer-no : (c : Code.Refusal) → r ≡ Tags.Refused c → Runs (λ e. walk (e .0) (tagsShape (e .1 .t)) (e .1 .o)) s p (inTables l k) (inTablesIs l′ (Walked.Refused c))
-    buffer-no c i = record { law = λ e. array-no (e .0) plain (e .1 .t) tagShape end (e .1 .o) (inTables l k e) s p (n + 1) q (length-took s p false 6 n q d) (ofRefusal c) (ap (λ y. inTableIs l′ y (e .0, behind (e .1) (e .2) n)) (sym i) ∙ looped e) }
+    buffer-no c i = record { law = λ e. array-no (e .0) plain (e .1 .t) tagShape end (e .1 .o) (inTables l k e) s p (n + 1) q (length-took s p n q d) (ofRefusal c) (ap (λ y. inTableIs l′ y (e .0, behind (e .1) (e .2) n)) (sym i) ∙ looped e) }
 
     pub buffer-took : (u j : ℕ) → r ≡ Tags.Took u j → Runs (λ e. walk (e .0) (tagsShape (e .1 .t)) (e .1 .o)) s p (inTables l k) (inTablesIs l′ (Walked.Took n u j))
     unfolding behind
     buffer-took u j i = record {
-      law = λ e. array-took (e .0) plain (e .1 .t) tagShape end (e .1 .o) (inTables l k e) s p (n + 1) q (length-took s p false 6 n q d) _ u _ (ap (λ y. inTableIs l′ y (e .0, behind (e .1) (e .2) n)) (sym i) ∙ looped e) (row-end (e .0) (e .1 .o) (inTablesIs-state e j) s u);
+      law = λ e. array-took (e .0) plain (e .1 .t) tagShape end (e .1 .o) (inTables l k e) s p (n + 1) q (length-took s p n q d) _ u _ (ap (λ y. inTableIs l′ y (e .0, behind (e .1) (e .2) n)) (sym i) ∙ looped e) (row-end (e .0) (e .1 .o) (inTablesIs-state e j) s u);
     }
       where
         inTablesIs-state : Bool × Places × Tab → ℕ → State

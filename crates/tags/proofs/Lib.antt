@@ -1,5 +1,4 @@
--- data behind its length, and a tag's row
-pub mod Data
+-- a tag's row
 pub mod Rows
 -- the number of tags and the tags
 pub mod Count

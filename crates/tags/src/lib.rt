@@ -4,17 +4,13 @@ ghost use mathlib.Core.Bool.{false};
 ghost use mathlib.Core.List.{[], _∷_};
 ghost use lib.IntN.{pos};
 ghost use Rattle.layout.specs.Reading.{loop};
-ghost use Rattle.layout.specs.Primitives.{plain};
-ghost use Rattle.layout.specs.Rows.{blob};
-ghost use Rattle.layout.specs.Read.{byPlace, read, readBasic};
+ghost use Rattle.layout.specs.Read.{byPlace, read};
 ghost use Rattle.layout.specs.Answers.{prefixRead, tagsAlone};
-ghost use Rattle.fields.specs.Answers.{ofPart};
 ghost use Rattle.rows.specs.Walk.{Runs, on, walk};
 ghost use Rattle.tags.specs.Answers.{inTable, inTableIs, inTables, inTablesIs, ofTag, ofTagged, tagShape, tagsShape};
 use fields::Part;
-use fields::parts;
+use places::data_at;
 use places::varint_at;
-use primitives::BYTES_END;
 use primitives::MOST;
 use primitives::Number;
 use primitives::Refusal;
@@ -54,27 +50,6 @@ pub enum Walked {
 pub enum Tagged {
     Took { count: u64, used: usize },
     Refused(Refusal),
-}
-
-// Data at place p: its length as an unsigned varint, and so many bytes.
-pub fn data_at(s: &[u8], p: usize) -> Part
-    ensures { λ r. ⌜ ofPart r ≡ on (readBasic (byPlace false) (blob plain)) (now (s .entry)) p ⌝ }
-{
-    match varint_at(s, p) {
-        Number::Took { value, used } => {
-            let left = parts::rest(s, used);
-            if (left.len() as u64) < value {
-                return Part::Refused(at(BYTES_END, p));
-            }
-            let len = value as usize;
-            Part::Took {
-                start: used,
-                len,
-                used: used + len,
-            }
-        }
-        Number::Refused(e) => Part::Refused(e),
-    }
 }
 
 pub fn tag_at(s: &[u8], p: usize) -> Tag

@@ -14,13 +14,13 @@ at-requires : tie.Need-at-requires
 at-requires c κs = search needs
 
 returns : tie.Need-returns
-returns c = data-short _ _ _ _ (c .before .before .rest .ensures) _ (c .at .ensures) (search needs)
+returns c = data-short _ _ _ _ (c .before .before .rest .ensures) _ _ (c .at .ensures) (search needs)
 
-add-t6 : tie.Need-add-t6
-add-t6 c = omega (arith, ap length (c .before .rest .ensures), length-drop (c .before .before .before .args .used) (c .before .before .before .args .s .now))
+add-t7 : tie.Need-add-t7
+add-t7 c = omega (arith, ap length (c .before .rest .ensures), length-drop (c .before .before .before .args .used) (c .before .before .before .args .s .now))
 
 returns-2 : tie.Need-returns-2
-returns-2 c = data-is _ _ _ _ (c .before .rest .ensures) (search needs)
+returns-2 c = data-is _ _ _ _ (c .before .rest .ensures) _ (search needs)
 
 pub contents-spec : {M : Type 1} → statement M
-contents-spec = tie.close (tie.spec rest-requires at-requires returns add-t6 returns-2)
+contents-spec = tie.close (tie.spec rest-requires at-requires returns add-t7 returns-2)

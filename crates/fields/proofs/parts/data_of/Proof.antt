@@ -23,13 +23,13 @@ enum-known-c-2 : tie.Need-enum-known-c-2
 enum-known-c-2 c = search needs
 
 returns : tie.Need-returns
-returns c = c .contents .ensures ∙ sym (ap (shownBehind dataBehind false _ _) (c .before .before .c .given .1))
+returns c = c .contents .ensures ∙ sym (ap (shownBehind (dataBehind 0) false _ _) (c .before .before .c .given .1))
 
 returns-2 : tie.Need-returns-2
-returns-2 c = ap bad (c .at .ensures) ∙ sym (ap (shownBehind dataBehind false _ _) (c .before .enum-told .given .1))
+returns-2 c = ap bad (c .at .ensures) ∙ sym (ap (shownBehind (dataBehind 0) false _ _) (c .before .enum-told .given .1))
 
 returns-3 : tie.Need-returns-3
-returns-3 c = sym (ap (shownBehind dataBehind false _ _) (c .before .c2 .given .1))
+returns-3 c = sym (ap (shownBehind (dataBehind 0) false _ _) (c .before .c2 .given .1))
 
 pub data-of-spec : {M : Type 1} → statement M
 data-of-spec =

@@ -1,0 +1,36 @@
+-- The varint is the length, and the data behind it, or what is refused, is what the reader at the place gives.
+use mathlib.Core.Path.{_∙_, ap, sym}
+use Rattle.primitives.specs.Answers.{ofNumber}
+use Rattle.places.proofs.DataAt.{data-behind, data-no}
+use borrow.Author.Needs.{needs}
+use Rattle.places.proofs.data_at.Statement.{statement}
+use Rattle.places.proofs.data_at.Tie as tie
+
+varint-at-requires : tie.Need-varint-at-requires
+varint-at-requires c κs = search needs
+
+enum-known-value : tie.Need-enum-known-value
+enum-known-value c = search needs
+
+contents-requires : tie.Need-contents-requires
+contents-requires c κs = search needs
+
+enum-known-e : tie.Need-enum-known-e
+enum-known-e c = search needs
+
+returns : tie.Need-returns
+returns c = c .contents .ensures ∙ data-behind _ _ _ _ (ap ofNumber (sym (c .before .before .value .given .1)) ∙ c .before .before .before .before .varint-at .ensures)
+
+returns-2 : tie.Need-returns-2
+returns-2 c = data-no _ _ _ (ap ofNumber (sym (c .before .e .given .1)) ∙ c .before .before .before .varint-at .ensures)
+
+pub data-at-spec : {M : Type 1} → statement M
+data-at-spec =
+    tie.close
+    (tie.spec
+    varint-at-requires
+    enum-known-value
+    contents-requires
+    enum-known-e
+    returns
+    returns-2)
