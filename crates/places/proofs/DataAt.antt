@@ -15,7 +15,7 @@ use Rattle.layout.proofs.Steps.{primitive-place}
 use Rattle.layout.proofs.Tests.{one-more}
 use Rattle.fields.specs.Answers.{dataBehind}
 use Rattle.rows.specs.Walk.{on}
-use Rattle.rows.proofs.Steps.{give-took, then-no, then-took}
+use Rattle.rows.proofs.Chains.{give-took, then-no, then-took}
 
 -- a primitive at a place refuses there
 on-primitive : {A : Type 0} (r : Reader A) (s : List ℕ) (p : ℕ) → placed p (on r s p) ≡ on (primitive r) s p

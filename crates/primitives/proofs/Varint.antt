@@ -1,16 +1,19 @@
 -- The loop of an unsigned varint: where it stands, and what each way out and each turn gives. b is the byte at p.
+use mathlib.Core.Bool.{Bool, cond, false, true}
 use mathlib.Core.List.{List}
 use mathlib.Core.Path.{_∙_, _≡_, ap, refl, subst, sym}
 use Prim.Native.Nat.{_%_, _*_, _+_, _-_, _<_, _^_, _≤_, suc, zero, ℕ}
 use native.Mathlib.Nat.{add-zero, mul-assoc, mul-le-mul-left, mul-le-mul-right, mul-one, one-le-pow, pow-succ', pow-zero, zero-add}
 use native.Mathlib.Omega.{arith}
+use lib.Dec.{ltb}
 use lib.ListN.{drop, getD, length, length-drop, take}
 use lib.Seq.{drop-drop, getD-drop}
 use Rattle.layout.specs.Reading.{Reader, Refusal, Res, bad, because, fail, give, more, ok, pick, placed, primitive, then}
 use Rattle.layout.specs.Primitives.{be, groups, int, unsigned}
 use Rattle.layout.proofs.Maps.{more-more}
 use Rattle.layout.proofs.Steps.{int-bad, int-ok, then-bad, then-ok}
-use Rattle.layout.proofs.Tests.{lt-false, lt-true}
+use Rattle.layout.proofs.Tests.{lt-false, lt-true, of-ge, of-lt}
+use Rattle.primitives.specs.Answers.{tenthByte}
 use Rattle.primitives.proofs.Cells.{be-1}
 
 -- k more bytes may follow before the tenth; weight and value as `groups` has them; what is left of it from p on is what was asked
@@ -29,10 +32,10 @@ start s = record { whole = refl; below = omega arith; same = ap (placed 0) (more
 
 module _ (s : List ℕ) (weight value p : ℕ) where
   -- the bytes end
-  pub short : (k : ℕ) (e : Refusal) → e ≡ because 3 0 → Along s k weight value p → length s ≤ p → bad e ≡ unsigned 0 s
+  pub short : (k : ℕ) (o : Res ℕ) → o ≡ bad (because 3 0) → Along s k weight value p → length s ≤ p → o ≡ unsigned 0 s
   unfolding groups
-  short zero e i a l = ap bad i ∙ sym (a .same ∙ ap (λ o. placed 0 (more p o)) (then-bad (int 1) _ p (drop p s) (because 3 p) (int-bad 1 p (drop p s) (omega (arith, length-drop p s)))))
-  short (suc k) e i a l = ap bad i ∙ sym (a .same ∙ ap (λ o. placed 0 (more p o)) (then-bad (int 1) _ p (drop p s) (because 3 p) (int-bad 1 p (drop p s) (omega (arith, length-drop p s)))))
+  short zero o e a l = e ∙ sym (a .same ∙ ap (λ o. placed 0 (more p o)) (then-bad (int 1) _ p (drop p s) (because 3 p) (int-bad 1 p (drop p s) (omega (arith, length-drop p s)))))
+  short (suc k) o e a l = e ∙ sym (a .same ∙ ap (λ o. placed 0 (more p o)) (then-bad (int 1) _ p (drop p s) (because 3 p) (int-bad 1 p (drop p s) (omega (arith, length-drop p s)))))
 
   -- the weight times 128 is a weight
   pub narrow : (k : ℕ) → 0 < k → Along s k weight value p → weight * 128 ≤ 2 ^ 63
@@ -50,13 +53,13 @@ module _ (s : List ℕ) (weight value p : ℕ) where
       let m = a .below in
       (omega arith, omega arith)
 
-  pub room-10 : (k : ℕ) → k ≤ 0 → Along s k weight value p → (d : ℕ) → d < 2 → (d * weight < 2 ^ 64) × (value + d * weight < 2 ^ 64)
-  room-10 zero h a d l =
-      let g : d * weight ≤ 1 * weight = mul-le-mul-right weight (omega arith) in
-      let n : weight ≡ 2 ^ 63 = sym (ap (λ (n : ℕ). weight * n) (pow-zero 128) ∙ mul-one weight) ∙ a .whole in
-      let m = a .below in
-      (omega arith, omega arith)
-  room-10 (suc k) h a d l = absurd (omega arith)
+  -- at the tenth byte the weight is known
+  weight-10 : Along s 0 weight value p → weight ≡ 2 ^ 63
+  weight-10 a = sym (ap (λ (n : ℕ). weight * n) (pow-zero 128) ∙ mul-one weight) ∙ a .whole
+
+  pub below-10 : (k : ℕ) → k ≤ 0 → Along s k weight value p → value < 2 ^ 63
+  below-10 zero h a = let w = weight-10 a in let l = a .below in omega arith
+  below-10 (suc k) h a = absurd (omega arith)
 
   module _ (b : ℕ) (e : b ≡ getD s p 0) (i : p < length s) where
     -- the byte at p is read
@@ -90,13 +93,13 @@ module _ (s : List ℕ) (weight value p : ℕ) where
     ended zero h a l = absurd (omega arith)
     ended (suc k) h a l = asked _ (suc k) a (low-group k l)
 
-    pub tenth : (k : ℕ) → k ≤ 0 → Along s k weight value p → b < 128 → ok (value + b % 2 * weight) (p + 1) ≡ unsigned 0 s
-    tenth zero h a l = asked _ 0 a (low-tenth l)
-    tenth (suc k) h a l = absurd (omega arith)
-
-    pub endless : (k : ℕ) (c : Refusal) → c ≡ because 5 0 → k ≤ 0 → Along s k weight value p → 128 ≤ b → bad c ≡ unsigned 0 s
-    endless zero c j h a l = ap bad j ∙ asked _ 0 a (high-tenth l)
-    endless (suc k) c j h a l = absurd (omega arith)
+    pub tenth-is : (k : ℕ) → k ≤ 0 → Along s k weight value p → p ≡ 9 → tenthByte value b ≡ unsigned 0 s
+    tenth-is zero h a q = go (ltb b 128) refl
+      where
+        go : (t : Bool) → ltb b 128 ≡ t → cond t (ok (value + b % 2 * 2 ^ 63) 10) (bad (because 5 0)) ≡ unsigned 0 s
+        go true j = let w = weight-10 a in let m : 10 ≡ p + 1 = omega arith in (λ t. ok (value + b % 2 * sym w t) (m t)) ∙ asked _ 0 a (low-tenth (of-lt b 128 j))
+        go false j = asked _ 0 a (high-tenth (of-ge b 128 j))
+    tenth-is (suc k) h a q = absurd (omega arith)
 
     next-at : (k : ℕ) → Along s (suc k) weight value p → 128 ≤ b → Along s k (weight * 128) (value + b % 128 * weight) (p + 1)
     next-at k a l =
@@ -107,6 +110,14 @@ module _ (s : List ℕ) (weight value p : ℕ) where
           same = sym (asked (more 1 (groups k (weight * 128) (value + b % 128 * weight) (p + 1) (drop (p + 1) s))) (suc k) a (high-group k l)) ∙ ap (placed 0) (more-more p 1 (groups k (weight * 128) (value + b % 128 * weight) (p + 1) (drop (p + 1) s)));
         }
 
-    pub again : (k : ℕ) → 0 < k → Along s k weight value p → 128 ≤ b → Along s (k - 1) (weight * 128) (value + b % 128 * weight) (p + 1)
-    again zero h a l = absurd (omega arith)
-    again (suc k) h a l = subst (λ (j : ℕ). Along s j (weight * 128) (value + b % 128 * weight) (p + 1)) (omega arith) (next-at k a l)
+    pub again : (k : ℕ) → 0 < k → Along s k weight value p → 128 ≤ b → (j : ℕ) → j ≡ k - 1 → Along s j (weight * 128) (value + b % 128 * weight) (p + 1)
+    again zero h a l j i = absurd (omega arith)
+    again (suc k) h a l j i = subst (λ (j : ℕ). Along s j (weight * 128) (value + b % 128 * weight) (p + 1)) (omega arith) (next-at k a l)
+
+-- the tenth byte, by what it is
+module _ (a b : ℕ) where
+  pub tenth-low : b < 128 → ok (a + b % 2 * 2 ^ 63) 10 ≡ tenthByte a b
+  tenth-low l = rw (lt-true b 128 l)
+
+  pub tenth-high : 128 ≤ b → (c : Refusal) → c ≡ because 5 0 → bad c ≡ tenthByte a b
+  tenth-high l c e = ap bad e ∙ rw (lt-false b 128 l)

@@ -1,5 +1,5 @@
 -- What the answers of the calls say in the definition's words: the number and values of docs/RULES.md for each case of each enum.
-use Prim.Native.Nat.{_+_, _<_, _^_, ℕ}
+use Prim.Native.Nat.{_%_, _*_, _+_, _<_, _^_, ℕ}
 use lib.Dec.{ltb}
 use lib.IntN.{negsuc, pos, ℤ}
 use lib.ListN.{length}
@@ -43,6 +43,10 @@ unlessLong s o = limited (length s) o
 abbrev pub Below : ℕ → Number → Type 0
 Below m (Number.Took v n) = v < m
 Below m (Number.Refused e) = Unit {0}
+
+-- the tenth byte b of a varint, behind those that say a: its lowest bit, and none may follow
+abbrev pub tenthByte : ℕ → ℕ → Res ℕ
+tenthByte a b = cond (ltb b 128) (ok (a + b % 2 * 2 ^ 63) 10) (bad (because 5 0))
 
 -- from half on `fill` is added
 abbrev pub ofExtended : ℕ → ℕ → Number → Res ℕ

@@ -4,8 +4,9 @@ ghost use mathlib.Core.Path.{_≡_};
 ghost use Prim.Native.Nat.{_*_, _+_, _<_, _^_, _≤_};
 ghost use lib.Dec.{ltb};
 ghost use lib.ListN.{length, take};
+ghost use Rattle.layout.specs.Reading.{bad, because};
 ghost use Rattle.layout.specs.Primitives.{be, cell, flag, int, unsigned, w8, w16, w32, w64};
-ghost use Rattle.primitives.specs.Answers.{Below, ofExtended, ofFlag, ofNumber};
+ghost use Rattle.primitives.specs.Answers.{Below, ofExtended, ofFlag, ofNumber, tenthByte};
 use crate::BYTES_END;
 use crate::Flag;
 use crate::Number;
@@ -141,17 +142,37 @@ pub fn boolean(s: &[u8]) -> Flag
     }
 }
 
-// Seven bits a byte, lowest first. The tenth byte gives its lowest bit alone, and must not continue.
+// The bytes end inside a varint.
+fn bytes_end() -> Number
+    ensures { λ r. ⌜ ofNumber r ≡ bad (because 3 0) ⌝ }
+{
+    Number::Refused(at(BYTES_END, 0))
+}
+
+// The tenth byte gives its lowest bit alone, and must not continue.
+fn tenth(value: u64, b: u64) -> Number
+    requires { ⌜ value < 2 ^ 63 ⌝ }
+    ensures { λ r. ⌜ ofNumber r ≡ tenthByte value b ⌝ }
+{
+    if b < 128 {
+        return Number::Took {
+            value: value + b % 2 * 9223372036854775808,
+            used: 10,
+        };
+    }
+    Number::Refused(at(VARINT_CONTINUES, 0))
+}
+
+// Seven bits a byte, lowest first.
 pub fn unsigned_varint(s: &[u8]) -> Number
     ensures { λ r. ⌜ ofNumber r ≡ unsigned 0 (now (s .entry)) ⌝ }
 {
-    let mut k: u64 = 9;
     let mut weight: u64 = 1;
     let mut value: u64 = 0;
     let mut p: usize = 0;
-    while 0 < k {
+    while p < 9 {
         if s.len() <= p {
-            return Number::Refused(at(BYTES_END, 0));
+            return bytes_end();
         }
         let b = wide(s[p]);
         if b < 128 {
@@ -163,17 +184,9 @@ pub fn unsigned_varint(s: &[u8]) -> Number
         value = value + b % 128 * weight;
         weight = weight * 128;
         p = p + 1;
-        k = k - 1;
     }
     if s.len() <= p {
-        return Number::Refused(at(BYTES_END, 0));
+        return bytes_end();
     }
-    let b = wide(s[p]);
-    if b < 128 {
-        return Number::Took {
-            value: value + b % 2 * weight,
-            used: p + 1,
-        };
-    }
-    Number::Refused(at(VARINT_CONTINUES, 0))
+    tenth(value, wide(s[p]))
 }

@@ -1,3 +1,4 @@
+-- One byte is the flag, or there is none.
 use Rattle.primitives.proofs.Cells.{flag-short, flag-is}
 use borrow.Author.Needs.{needs}
 use Rattle.primitives.proofs.numbers.boolean.Statement.{statement}

@@ -1,3 +1,4 @@
+-- Two halves of four bytes.
 use native.Mathlib.Omega.{arith}
 use mathlib.Core.List.{List}
 use mathlib.Core.Path.{_∙_, _≡_, ap}

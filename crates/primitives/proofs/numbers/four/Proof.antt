@@ -1,3 +1,4 @@
+-- Each byte counts 256 times the one behind it.
 use native.Mathlib.Omega.{arith}
 use Rattle.primitives.proofs.Cells.{be-4}
 use borrow.Author.Needs.{needs}

@@ -1,3 +1,4 @@
+-- Eight bytes are the cell, or they end.
 use Rattle.layout.specs.Primitives.{w64}
 use Rattle.primitives.proofs.Cells.{cell-short, cell-whole}
 use borrow.Author.Needs.{needs}

@@ -1,3 +1,4 @@
+-- The first byte counts 256 times the second.
 use native.Mathlib.Omega.{arith}
 use Rattle.primitives.proofs.Cells.{be-2}
 use borrow.Author.Needs.{needs}

@@ -1,3 +1,4 @@
+-- Four bytes are the number, or they end.
 use Rattle.primitives.proofs.Cells.{int-is, int-short}
 use borrow.Author.Needs.{needs}
 use Rattle.primitives.proofs.numbers.uint32.Statement.{statement}

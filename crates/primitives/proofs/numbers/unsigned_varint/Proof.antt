@@ -1,24 +1,26 @@
-use Prim.Native.Nat.{_%_}
+-- What is left of the number from p on is what was asked at the start, and 9 − p bytes may follow before the tenth.
+use mathlib.Core.Path.{_∙_}
+use Prim.Native.Nat.{_%_, _-_, _≤_}
 use native.Mathlib.Omega.{arith}
+use Rattle.primitives.proofs.Varint.{Along, again, below-10, ended, narrow, room, short, start, tenth-is}
 use borrow.Author.Needs.{needs}
-use Rattle.primitives.proofs.Varint.{Along, again, ended, endless, narrow, room, room-10, short, start, tenth}
 use Rattle.primitives.proofs.numbers.unsigned_varint.Statement.{statement}
 use Rattle.primitives.proofs.numbers.unsigned_varint.Tie as tie
 
 abbrev Inv-loop : tie.InvT-loop
-Inv-loop s k₀ weight₀ value₀ p₀ k weight value p = Along s k weight value p
+Inv-loop s weight₀ value₀ p₀ weight value p = (p ≤ 9) × Along s (9 - p) weight value p
 
 abbrev μ-loop : tie.MeasureT-loop
-μ-loop s k₀ weight₀ value₀ p₀ k weight value p = k
+μ-loop s weight₀ value₀ p₀ weight value p = 9 - p
 
 loop-holds : tie.Need-loop-holds Inv-loop μ-loop
-loop-holds c = start _
+loop-holds c = (search needs, start _)
 
-at-requires : tie.Need-at-requires Inv-loop μ-loop
-at-requires c κs = search needs
+bytes-end-requires : tie.Need-bytes-end-requires Inv-loop μ-loop
+bytes-end-requires c κs = search needs
 
 returns : tie.Need-returns Inv-loop μ-loop
-returns c = short _ _ _ _ _ _ (c .at .ensures) (c .before .before .before .loop .inv) (c .before .if1 .taken)
+returns c = short _ _ _ _ _ _ (c .bytes-end .ensures) (c .before .before .before .loop .inv .1) (c .before .if1 .taken)
 
 shared-slice-read-wide : tie.Need-shared-slice-read-wide Inv-loop μ-loop
 shared-slice-read-wide c = search needs
@@ -26,44 +28,41 @@ shared-slice-read-wide c = search needs
 wide-requires : tie.Need-wide-requires Inv-loop μ-loop
 wide-requires c κs = search needs
 
-mul-t13 : tie.Need-mul-t13 Inv-loop μ-loop
-mul-t13 c = record { fits = room _ _ _ _ _ (c .before .before .before .before .loop-test .taken) (c .before .before .before .before .before .loop .inv) _ (c .if2 .taken) .0 }
+mul-t10 : tie.Need-mul-t10 Inv-loop μ-loop
+mul-t10 c = record { fits = room _ _ _ _ _ (omega arith) (c .before .before .before .before .before .loop .inv .1) _ (c .if2 .taken) .0 }
 
-add-t14 : tie.Need-add-t14 Inv-loop μ-loop
-add-t14 c = record { fits = room _ _ _ _ _ (c .before .before .before .before .loop-test .taken) (c .before .before .before .before .before .loop .inv) _ (c .if2 .taken) .1 }
+add-t11 : tie.Need-add-t11 Inv-loop μ-loop
+add-t11 c = record { fits = room _ _ _ _ _ (omega arith) (c .before .before .before .before .before .loop .inv .1) _ (c .if2 .taken) .1 }
 
-add-t15 : tie.Need-add-t15 Inv-loop μ-loop
-add-t15 c = search needs
+add-t12 : tie.Need-add-t12 Inv-loop μ-loop
+add-t12 c = search needs
 
 returns-2 : tie.Need-returns-2 Inv-loop μ-loop
-returns-2 c = search (needs, ended)
+returns-2 c = ended _ _ _ _ _ (c .before .wide .ensures .0) (c .before .before .before .if1 .left) _ (omega arith) (c .before .before .before .before .before .loop .inv .1) (c .if2 .taken)
 
 mul-value : tie.Need-mul-value Inv-loop μ-loop
-mul-value c = record { fits = room _ _ _ _ _ (c .before .before .before .before .loop-test .taken) (c .before .before .before .before .before .loop .inv) (c .before .wide .result % 128) (omega arith) .0 }
+mul-value c = record { fits = room _ _ _ _ _ (omega arith) (c .before .before .before .before .before .loop .inv .1) (c .before .wide .result % 128) (omega arith) .0 }
 
 add-value : tie.Need-add-value Inv-loop μ-loop
-add-value c = record { fits = room _ _ _ _ _ (c .before .before .before .before .loop-test .taken) (c .before .before .before .before .before .loop .inv) (c .before .wide .result % 128) (omega arith) .1 }
+add-value c = record { fits = room _ _ _ _ _ (omega arith) (c .before .before .before .before .before .loop .inv .1) (c .before .wide .result % 128) (omega arith) .1 }
 
 mul-weight : tie.Need-mul-weight Inv-loop μ-loop
-mul-weight c = omega (arith, narrow _ _ _ _ _ (c .before .before .before .before .loop-test .taken) (c .before .before .before .before .before .loop .inv))
+mul-weight c = let h = narrow _ _ _ _ _ (omega arith) (c .before .before .before .before .before .loop .inv .1) in omega arith
 
 add-p : tie.Need-add-p Inv-loop μ-loop
 add-p c = search needs
-
-sub-k : tie.Need-sub-k Inv-loop μ-loop
-sub-k c = search needs
 
 loop-less : tie.Need-loop-less Inv-loop μ-loop
 loop-less c = search needs
 
 loop-again : tie.Need-loop-again Inv-loop μ-loop
-loop-again c = search (needs, again)
+loop-again c = (omega arith, again _ _ _ _ _ (c .before .wide .ensures .0) (c .before .before .before .if1 .left) _ (omega arith) (c .before .before .before .before .before .loop .inv .1) (c .if2 .left) _ (omega arith))
 
-at-requires-2 : tie.Need-at-requires-2 Inv-loop μ-loop
-at-requires-2 c κs = search needs
+bytes-end-requires-2 : tie.Need-bytes-end-requires-2 Inv-loop μ-loop
+bytes-end-requires-2 c κs = search needs
 
 returns-3 : tie.Need-returns-3 Inv-loop μ-loop
-returns-3 c = short _ _ _ _ _ _ (c .at2 .ensures) (c .before .before .before .loop .inv) (c .before .if3 .taken)
+returns-3 c = short _ _ _ _ _ _ (c .bytes-end2 .ensures) (c .before .before .before .loop .inv .1) (c .before .if3 .taken)
 
 shared-slice-read-wide-2 : tie.Need-shared-slice-read-wide-2 Inv-loop μ-loop
 shared-slice-read-wide-2 c = search needs
@@ -71,23 +70,11 @@ shared-slice-read-wide-2 c = search needs
 wide-requires-2 : tie.Need-wide-requires-2 Inv-loop μ-loop
 wide-requires-2 c κs = search needs
 
-mul-t24 : tie.Need-mul-t24 Inv-loop μ-loop
-mul-t24 c = record { fits = room-10 _ _ _ _ _ (c .before .before .before .before .loop-test .left) (c .before .before .before .before .before .loop .inv) (c .before .wide2 .result % 2) (omega arith) .0 }
-
-add-t25 : tie.Need-add-t25 Inv-loop μ-loop
-add-t25 c = record { fits = room-10 _ _ _ _ _ (c .before .before .before .before .loop-test .left) (c .before .before .before .before .before .loop .inv) (c .before .wide2 .result % 2) (omega arith) .1 }
-
-add-t26 : tie.Need-add-t26 Inv-loop μ-loop
-add-t26 c = search needs
+tenth-requires : tie.Need-tenth-requires Inv-loop μ-loop
+tenth-requires c κs = below-10 _ _ _ _ _ (omega arith) (c .before .before .before .before .loop .inv .1)
 
 returns-4 : tie.Need-returns-4 Inv-loop μ-loop
-returns-4 c = search (needs, tenth)
-
-at-requires-3 : tie.Need-at-requires-3 Inv-loop μ-loop
-at-requires-3 c κs = search needs
-
-returns-5 : tie.Need-returns-5 Inv-loop μ-loop
-returns-5 c = endless _ _ _ _ _ (c .before .before .wide2 .ensures .0) (c .before .before .before .before .if3 .left) _ _ (c .at3 .ensures) (c .before .before .before .before .before .loop-test .left) (c .before .before .before .before .before .before .loop .inv) (c .before .if4 .left)
+returns-4 c = c .tenth .ensures ∙ tenth-is _ _ _ _ _ (c .before .wide2 .ensures .0) (c .before .before .before .if3 .left) _ (omega arith) (c .before .before .before .before .before .loop .inv .1) (omega arith)
 
 pub unsigned-varint-spec : {M : Type 1} → statement M
 unsigned-varint-spec =
@@ -96,28 +83,23 @@ unsigned-varint-spec =
     Inv-loop
     μ-loop
     loop-holds
-    at-requires
+    bytes-end-requires
     returns
     shared-slice-read-wide
     wide-requires
-    mul-t13
-    add-t14
-    add-t15
+    mul-t10
+    add-t11
+    add-t12
     returns-2
     mul-value
     add-value
     mul-weight
     add-p
-    sub-k
     loop-less
     loop-again
-    at-requires-2
+    bytes-end-requires-2
     returns-3
     shared-slice-read-wide-2
     wide-requires-2
-    mul-t24
-    add-t25
-    add-t26
-    returns-4
-    at-requires-3
-    returns-5)
+    tenth-requires
+    returns-4)

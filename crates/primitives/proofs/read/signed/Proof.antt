@@ -1,3 +1,4 @@
+-- From 2^63 on the cell is that of a negative number.
 use mathlib.Core.Path.{_∙_, sym}
 use mir.Facts.{toZ-ofZ}
 use Rattle.layout.specs.Primitives as Kafka
