@@ -76,16 +76,9 @@ module _ {A : Type 0} (r : Reader A) (g : ℕ → A → A) (h : Portable r g) (s
   at-place (ok x n) z e d = d ∙ at-took r g (h .moves) s left p i x n e
   at-place (bad c) z e d = d ∙ at-no r g (h .moves) s left p i _ c e (ap (λ (y : Refusal). y .place) (h .at-start left c (sym e))) refl
 
-  -- the same, by the answer
+  -- the same, of what was taken
   pub took-at : (x : A) (n : ℕ) → ok x n ≡ r 0 left → ok (g p x) (p + n) ≡ on r s p
   took-at x n e = at-place (ok x n) _ e refl
 
-  pub no-at : (e c : Refusal) → bad e ≡ r 0 left → c ≡ because (e .number) p → bad c ≡ on r s p
-  no-at e c d k = at-place (bad e) _ d (ap bad k)
-
   pub fits : p < 2 ^ 64 → length s < 2 ^ 64 → (o : Res A) → o ≡ r 0 left → Fits p o
   fits a b o e = record { law = λ x n d. at-fits r g (h .moves) s left p i (h .local) x n (sym d ∙ e) (2 ^ 64) a b }
-
-  -- the place behind it is a number of the machine
-  pub place-fits : (x : A) (n : ℕ) → ok x n ≡ r 0 left → p < 2 ^ 64 → length s < 2 ^ 64 → p + n < 2 ^ 64
-  place-fits x n e a b = fits a b (ok x n) e .law x n refl

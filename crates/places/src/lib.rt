@@ -189,10 +189,11 @@ pub fn nullable_string_at(s: &[u8], p: usize) -> Nullable
     field_moved(texts::nullable_string(parts::rest(s, p)), p)
 }
 
-pub fn boolean_at(s: &[u8], p: usize) -> Flag
-    ensures { λ r. ⌜ ofFlag r ≡ on flag (now (s .entry)) p ⌝ }
+fn flag_moved(f: Flag, p: usize) -> Flag
+    requires { ⌜ Fits p (ofFlag f) ⌝ }
+    ensures { λ r. ⌜ ofFlag r ≡ fromPlace (λ d x. x) p (ofFlag f) ⌝ }
 {
-    match numbers::boolean(parts::rest(s, p)) {
+    match f {
         Flag::Took { value, used } => Flag::Took {
             value,
             used: p + used,
@@ -201,11 +202,17 @@ pub fn boolean_at(s: &[u8], p: usize) -> Flag
     }
 }
 
-// The count of an array that may be null.
-pub fn count_at(s: &[u8], p: usize) -> Count
-    ensures { λ r. ⌜ ofCount r ≡ on (counted (fixed w32 kept)) (now (s .entry)) p ⌝ }
+pub fn boolean_at(s: &[u8], p: usize) -> Flag
+    ensures { λ r. ⌜ ofFlag r ≡ on flag (now (s .entry)) p ⌝ }
 {
-    match counts::length32(front(s, p, 3)) {
+    flag_moved(numbers::boolean(parts::rest(s, p)), p)
+}
+
+fn count_moved(c: Count, p: usize) -> Count
+    requires { ⌜ Fits p (ofCount c) ⌝ }
+    ensures { λ r. ⌜ ofCount r ≡ fromPlace (λ d x. x) p (ofCount c) ⌝ }
+{
+    match c {
         Count::Null { used } => Count::Null { used: p + used },
         Count::Took { count, used } => Count::Took {
             count,
@@ -213,4 +220,11 @@ pub fn count_at(s: &[u8], p: usize) -> Count
         },
         Count::Refused(e) => Count::Refused(at(e.number, p)),
     }
+}
+
+// The count of an array that may be null.
+pub fn count_at(s: &[u8], p: usize) -> Count
+    ensures { λ r. ⌜ ofCount r ≡ on (counted (fixed w32 kept)) (now (s .entry)) p ⌝ }
+{
+    count_moved(counts::length32(front(s, p, 3)), p)
 }
