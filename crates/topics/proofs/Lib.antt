@@ -1,3 +1,6 @@
+-- marks, and numbers whose bytes are there
+pub mod MarkSteps
+pub mod Turned
 -- nodes, and arrays of them
 pub mod NodeRows
 pub mod NodeCounts

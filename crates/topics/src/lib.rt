@@ -4,6 +4,7 @@
 use primitives::Refusal;
 
 mod nodes;
+mod numbers;
 mod partitions;
 mod topic;
 

@@ -1,41 +1,69 @@
 // Arrays of nodes: replicas, and in-sync replicas. A null one stays null: its count is the cell of -1.
+ghost use mathlib.Core.Path.{_≡_};
 ghost use mathlib.Core.Bool.{false};
+ghost use Prim.Native.Nat.{_≤_, min};
 ghost use Rattle.layout.specs.Reading.{loop};
 ghost use Rattle.rows.specs.Walk.{Runs, beside, inPlace, walk};
+ghost use Rattle.rows.specs.Store.{limit};
+ghost use Rattle.topics.specs.Numbers.{steps};
 ghost use Rattle.topics.specs.Shapes.{nodeShape, nodesShape};
 ghost use Rattle.walks.specs.Answers.{besideIs, filledIs};
+use crate::numbers::int32_there;
 use fields::Count;
 use places::count_at;
-use places::int32_at;
-use primitives::Number;
-use rows::store;
+use primitives::BYTES_END;
+use primitives::at;
+use rows::LIMIT;
+use rows::less;
 use walks::Counted;
 use walks::Filled;
 
 // The cell of -1: null.
 const NULL: u64 = 18446744073709551615;
 
-// `count` nodes from place p on.
+fn smaller(a: usize, b: usize) -> usize
+    ensures { λ r. ⌜ r ≡ min a b ⌝ }
+{
+    if a <= b {
+        return a;
+    }
+    b
+}
+
+// The mark behind n cells, room or not.
+fn passed(mark: usize, n: usize) -> usize
+    requires { ⌜ n ≤ limit ⌝ }
+    ensures { λ r. ⌜ r ≡ steps n mark ⌝ }
+{
+    if mark < LIMIT - n {
+        return mark + n;
+    }
+    if mark < LIMIT {
+        return LIMIT;
+    }
+    mark
+}
+
+// `count` nodes from place p on. Their bytes are asked for once, before any is stored: where some are missing nothing that is stored would be told.
 fn nodes_in(s: &[u8], p: usize, count: u64, table: &mut [u64], mark: usize) -> Filled
     ensures { λ r. ⌜ Runs (λ e. loop count (walk false nodeShape (e .o))) (now (s .entry)) p (inPlace (now (table .entry)) mark) (filledIs (now (table .exit)) r) ⌝ }
 {
-    let mut left = count;
+    let there = less(s.len(), p) / 4;
+    if (there as u64) < count {
+        return Filled::Refused(at(BYTES_END, p + 4 * there));
+    }
+    let n = count as usize;
+    let behind = passed(mark, n);
+    let end = smaller(behind, table.len());
+    let mut row = mark;
     let mut place = p;
-    let mut behind = mark;
-    while 0 < left {
-        match int32_at(s, place) {
-            Number::Took { value, used } => {
-                behind = store(table, behind, value);
-                place = used;
-                left = left - 1;
-            }
-            Number::Refused(e) => {
-                return Filled::Refused(e);
-            }
-        }
+    while row < end {
+        table[row] = int32_there(s, place);
+        row = row + 1;
+        place = place + 4;
     }
     Filled::Took {
-        next: place,
+        next: p + 4 * n,
         mark: behind,
     }
 }

@@ -1,57 +1,75 @@
--- What is left to read from here is what was asked at the start. Every turn takes one from `left`, so the loop ends, if not by a refusal.
-use mathlib.Core.Path.{_∙_, _≡_, ap, refl, sym}
-use mathlib.Core.Bool.{false}
-use lib.ListN.{length}
+-- Where bytes are missing, so is a node. Else the nodes fill the table from the mark on, as far as it goes, and the mark behind all is known from the start.
+use Prim.Native.Nat.{_-_, _/_}
+use native.Mathlib.Omega.{arith}
 use borrow.Author.Needs.{needs}
-use Rattle.primitives.specs.Answers.{ofNumber}
-use Rattle.rows.specs.Walk.{inPlace, walk}
-use Rattle.rows.proofs.Loops.{Going, going-done, going-start}
-use Rattle.topics.specs.Shapes.{nodeShape}
-use Rattle.topics.proofs.NodeRows.{nodes-next, nodes-no}
+use Rattle.topics.proofs.NodeRows.{Filling, filling-end, filling-next, filling-start, filling-there, nodes-missing}
 use Rattle.topics.proofs.nodes.nodes_in.Statement.{statement}
 use Rattle.topics.proofs.nodes.nodes_in.Tie as tie
 
 abbrev Inv-loop : tie.InvT-loop
-Inv-loop s p count table₀ mark left₀ place₀ behind₀ table left place behind = Going (λ e. walk false nodeShape (e .o)) s count p (inPlace table₀ mark) left place (inPlace table behind) × (length table ≡ length table₀)
+Inv-loop s p count table₀ mark there n behind end row₀ place₀ table row place = Filling s count p table₀ mark behind table row place
 
 abbrev μ-loop : tie.MeasureT-loop
-μ-loop s p count table₀ mark left₀ place₀ behind₀ table left place behind = left
+μ-loop s p count table₀ mark there n behind end row₀ place₀ table row place = end - row
+
+less-requires : tie.Need-less-requires Inv-loop μ-loop
+less-requires c κs = search needs
+
+mul-at : tie.Need-mul-at Inv-loop μ-loop
+mul-at c = omega arith
+
+add-at : tie.Need-add-at Inv-loop μ-loop
+add-at c = omega arith
+
+at-requires : tie.Need-at-requires Inv-loop μ-loop
+at-requires c κs = search needs
+
+returns : tie.Need-returns Inv-loop μ-loop
+returns c = nodes-missing _ _ _ _ _ (c .before .before .less .result / 4) (omega arith) (λ z. omega arith) (omega arith) _ (c .at .ensures)
+
+passed-requires : tie.Need-passed-requires Inv-loop μ-loop
+passed-requires c κs = omega arith
+
+smaller-requires : tie.Need-smaller-requires Inv-loop μ-loop
+smaller-requires c κs = search needs
 
 loop-holds : tie.Need-loop-holds Inv-loop μ-loop
-loop-holds c = (going-start _ _ _ _ _, refl)
+loop-holds c = filling-start _ _ _ _ _ _ (c .before .passed .ensures)
 
-int32-at-requires : tie.Need-int32-at-requires Inv-loop μ-loop
-int32-at-requires c κs = tt
+int32-there-requires : tie.Need-int32-there-requires Inv-loop μ-loop
+int32-there-requires c κs = filling-there _ _ _ _ _ _ _ _ _ (c .before .loop .inv) (λ z. omega arith) (omega arith)
 
-enum-known-value : tie.Need-enum-known-value Inv-loop μ-loop
-enum-known-value c = search needs
+mul-table : tie.Need-mul-table Inv-loop μ-loop
+mul-table c = search needs
 
-store-requires : tie.Need-store-requires Inv-loop μ-loop
-store-requires c κs = tt
+slice-write-table : tie.Need-slice-write-table Inv-loop μ-loop
+slice-write-table c = omega arith
 
-sub-left : tie.Need-sub-left Inv-loop μ-loop
-sub-left c = search needs
+add-row : tie.Need-add-row Inv-loop μ-loop
+add-row c = omega arith
+
+add-place : tie.Need-add-place Inv-loop μ-loop
+add-place c =
+    let h = filling-there _ _ _ _ _ _ _ _ _ (c .before .before .loop .inv) (λ z. omega arith) (omega arith) in
+    omega arith
 
 loop-less : tie.Need-loop-less Inv-loop μ-loop
-loop-less c = search needs
+loop-less c = omega arith
 
 loop-again : tie.Need-loop-again Inv-loop μ-loop
-loop-again c = (nodes-next _ _ _ _ _ _ _ _ _ (c .before .before .before .before .before .before .before .before .before .loop .inv .0) (c .before .before .before .before .before .before .before .before .loop-test .taken) _ _ (ap ofNumber (sym (c .before .before .before .before .before .value .given .1)) ∙ c .before .before .before .before .before .before .before .int32-at .ensures) _ _ (c .before .before .store .ensures), search needs)
+loop-again c = filling-next _ _ _ _ _ _ _ _ _ (c .before .before .loop .inv) (λ z. omega arith) (omega arith) (omega arith) _ (c .int32-there .ensures)
 
-enum-known-e : tie.Need-enum-known-e Inv-loop μ-loop
-enum-known-e c = search needs
+mul-t13 : tie.Need-mul-t13 Inv-loop μ-loop
+mul-t13 c = omega arith
+
+add-t12 : tie.Need-add-t12 Inv-loop μ-loop
+add-t12 c = omega arith
 
 same-length : tie.Need-same-length Inv-loop μ-loop
 same-length c = search needs
 
-returns : tie.Need-returns Inv-loop μ-loop
-returns c = nodes-no _ _ _ _ _ _ _ _ _ (c .before .before .before .before .before .loop .inv .0) (c .before .before .before .before .loop-test .taken) _ (ap ofNumber (sym (c .before .e .given .1)) ∙ c .before .before .before .int32-at .ensures)
-
-same-length-2 : tie.Need-same-length-2 Inv-loop μ-loop
-same-length-2 c = search needs
-
 returns-2 : tie.Need-returns-2 Inv-loop μ-loop
-returns-2 c = going-done _ _ _ _ _ _ _ _ (c .before .loop .inv .0) (c .loop-test .left)
+returns-2 c = filling-end _ _ _ _ _ _ _ _ _ (c .before .loop .inv) (λ z. omega arith) (omega arith) (omega arith)
 
 pub nodes-in-spec : {M : Type 1} → statement M
 nodes-in-spec =
@@ -59,15 +77,22 @@ nodes-in-spec =
     (tie.spec
     Inv-loop
     μ-loop
+    less-requires
+    mul-at
+    add-at
+    at-requires
+    returns
+    passed-requires
+    smaller-requires
     loop-holds
-    int32-at-requires
-    enum-known-value
-    store-requires
-    sub-left
+    int32-there-requires
+    mul-table
+    slice-write-table
+    add-row
+    add-place
     loop-less
     loop-again
-    enum-known-e
+    mul-t13
+    add-t12
     same-length
-    returns
-    same-length-2
     returns-2)
