@@ -1,15 +1,26 @@
--- The numbers of a partition, field by field.
-use mathlib.Core.List.{List, [], _∷_}
-use mathlib.Core.Path.{_≡_}
-use Prim.Native.Nat.{ℕ}
-use Rattle.layout.specs.Reading.{Refusal, bad, ok}
+-- The numbers of a partition: field by field, where all bytes are there, and where some are missing.
+use mathlib.Core.List.{List, [], _++_, _∷_}
+use mathlib.Core.Path.{_∙_, _≡_, ap, sym}
+use Prim.Native.Nat.{_+_, _<_, _≤_, ℕ}
+use native.Mathlib.Omega.{arith}
+use lib.ListN.{length}
+use Rattle.layout.specs.Reading.{Refusal, bad, because, ok}
 use Rattle.layout.specs.Primitives.{cell, w16, w32}
 use Rattle.layout.specs.Rows.{Shape, end, field, number}
 use Rattle.layout.specs.Read.{readBasic}
 use Rattle.layout.specs.Tables.{cells}
+use Rattle.layout.proofs.Local.{not-ok}
+use Rattle.places.proofs.Fronts.{cell-at}
+use Rattle.primitives.specs.declared.Refusal as Code
+use Rattle.rows.specs.Store.{step, store, tab}
 use Rattle.rows.specs.Walk.{on, rowFrom}
+use Rattle.rows.proofs.Steps.{same-value}
+use Rattle.rows.proofs.Stores.{four-out, store-both}
 use Rattle.rows.proofs.RowCells.{cells-end, cells-no, cells-took}
 use Rattle.topics.specs.Shapes.{partitionFront}
+use Rattle.topics.specs.Walks.{RowStored, ofPartitionRow}
+use Rattle.topics.specs.declared.partitions.PartitionRow.{PartitionRow}
+use Rattle.topics.proofs.Turned.{cell-missing}
 
 module _ (s : List ℕ) (p : ℕ) where
   abbrev two : Shape
@@ -37,3 +48,38 @@ module _ (s : List ℕ) (p : ℕ) where
       numbers-took c n e =
           cells-took [] (number w16) two s p a q d _
           (cells-took (a ∷ []) (number w32) one s q b u g _ (cells-took (a ∷ b ∷ []) (number w32) end s u c n e _ (cells-end (a ∷ b ∷ c ∷ []) s n)))
+
+  -- all bytes are there
+  pub numbers-there : (a b c : ℕ) → ok a (p + 2) ≡ on (cell w16) s p → ok b (p + 2 + 4) ≡ on (cell w32) s (p + 2) → ok c (p + 6 + 4) ≡ on (cell w32) s (p + 6) → ok (a ∷ b ∷ c ∷ []) (p + 10) ≡ on (rowFrom [] partitionFront) s p
+  numbers-there a b c d g h =
+      let i : p + 6 ≡ p + 2 + 4 = omega arith in
+      let j : p + 10 ≡ p + 6 + 4 = omega arith in
+      numbers-took a (p + 2) d b (p + 6) (ap (λ (k : ℕ). ok b k) i ∙ g) c (p + 10) (ap (λ (k : ℕ). ok c k) j ∙ h)
+
+  -- the first number that is not whole
+  module _ (c : Refusal) where
+    pub error-missing : c ≡ because 3 p → length s < p + 2 → bad c ≡ on (rowFrom [] partitionFront) s p
+    error-missing e h = error-no c (ap bad e ∙ cell-missing w16 s p h)
+
+    pub index-missing : c ≡ because 3 (p + 2) → p + 2 ≤ length s → length s < p + 6 → bad c ≡ on (rowFrom [] partitionFront) s p
+    index-missing e h g = index-no _ (p + 2) (cell-at w16 s p h) c (ap bad e ∙ cell-missing w32 s (p + 2) (omega arith))
+
+    pub leader-missing : c ≡ because 3 (p + 6) → p + 6 ≤ length s → length s < p + 10 → bad c ≡ on (rowFrom [] partitionFront) s p
+    leader-missing e h g =
+        let i : p + 6 ≡ p + 2 + 4 = omega arith in
+        leader-no _ (p + 2) (cell-at w16 s p (omega arith)) _ (p + 2 + 4) (cell-at w32 s (p + 2) (omega arith)) c (ap bad (e ∙ ap (λ (k : ℕ). because 3 k) i) ∙ cell-missing w32 s (p + 2 + 4) (omega arith))
+
+  -- ---- the row with the counts of its arrays
+
+  module _ (l : List ℕ) (k count synced : ℕ) (l′ : List ℕ) (r : ℕ) where
+    -- passed over
+    pub row-out : (m : ℕ) → m ≡ step (step (step (step k))) → length l ≤ k → tab l′ r ≡ store (tab l m) (synced ∷ []) → RowStored s p l k count synced l′ r
+    row-out m e h i = record { law = λ a b c q d. store-both (tab l k) (tab l m) (tab l′ r) (a ∷ b ∷ c ∷ count ∷ []) (synced ∷ []) (four-out l k a b c count m e h) i }
+
+    module _ (x : PartitionRow) (h : ofPartitionRow x ≡ on (rowFrom [] partitionFront) s p) where
+      pub row-in : (a b c q : ℕ) → x ≡ PartitionRow.Took a b c q → tab l′ r ≡ store (tab l k) (a ∷ b ∷ c ∷ count ∷ synced ∷ []) → RowStored s p l k count synced l′ r
+      row-in a b c q d i = record { law = λ a′ b′ c′ q′ e. i ∙ ap (λ (cs : List ℕ). store (tab l k) (cs ++ (count ∷ synced ∷ []))) (same-value (sym (ap ofPartitionRow d) ∙ h ∙ sym e)) }
+
+      -- there is no such row
+      pub row-none : (c : Code.Refusal) → x ≡ PartitionRow.Refused c → RowStored s p l k count synced l′ r
+      row-none c d = record { law = λ a b c q e. not-ok (sym (ap ofPartitionRow d) ∙ h ∙ sym e) }

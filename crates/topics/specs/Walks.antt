@@ -1,9 +1,12 @@
 -- What the walks over topics, partitions and nodes say. Table 2 is that of topics, 3 partitions, 4 replicas, 5 in-sync replicas.
 use mathlib.Core.List.{List, [], _∷_}
+use mathlib.Core.Path.{_≡_}
 use Prim.Native.Nat.{ℕ}
 use Rattle.layout.specs.Reading.{Res, bad, ok}
 use Rattle.primitives.specs.Answers.{ofRefusal}
-use Rattle.rows.specs.Store.{State, Tab, tab}
+use Rattle.rows.specs.Store.{State, Tab, store, tab}
+use Rattle.rows.specs.Walk.{on, rowFrom}
+use Rattle.topics.specs.Shapes.{partitionFront}
 use Rattle.topics.specs.declared.Marked.{Marked}
 use Rattle.topics.specs.declared.Marks.{Marks}
 use Rattle.topics.specs.declared.partitions.PartitionRow.{PartitionRow}
@@ -38,6 +41,10 @@ noMarks = record { topics = 0; partitions = 0; replicas = 0; synced = 0 }
 abbrev pub ofPartitionRow : PartitionRow → Res (List ℕ)
 ofPartitionRow (PartitionRow.Took a b c n) = ok (a ∷ b ∷ c ∷ []) n
 ofPartitionRow (PartitionRow.Refused e) = bad (ofRefusal e)
+
+-- the row of the partition at p, stored with the counts of its arrays
+pub record RowStored (s : List ℕ) (p : ℕ) (l : List ℕ) (k count synced : ℕ) (l′ : List ℕ) (r : ℕ) : Type 0 where
+  pub law : (a b c q : ℕ) → ok (a ∷ b ∷ c ∷ []) q ≡ on (rowFrom [] partitionFront) s p → tab l′ r ≡ store (tab l k) (a ∷ b ∷ c ∷ count ∷ synced ∷ [])
 
 abbrev pub ofTopicRow : TopicRow → Res (List ℕ)
 ofTopicRow (TopicRow.Took a b c d n) = ok (a ∷ b ∷ c ∷ d ∷ []) n

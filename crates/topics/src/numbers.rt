@@ -1,21 +1,40 @@
 // Numbers whose bytes are known to be there. The bit of the sign is turned over first: the compiler then takes the bytes by one load.
 ghost use mathlib.Core.Path.{_≡_};
-ghost use Prim.Native.Nat.{_+_, _-_, _<_, _^_, _≤_};
-ghost use mathlib.Core.Bool.{cond};
-ghost use lib.Dec.{ltb};
+ghost use Prim.Native.Nat.{_+_, _<_, _≤_};
 ghost use lib.ListN.{drop, length, take};
-ghost use Rattle.layout.specs.Primitives.{be, cell, w32};
+ghost use Rattle.layout.specs.Primitives.{be, cell, fixed, kept, w16, w32};
 ghost use Rattle.layout.specs.Reading.{ok};
+ghost use Rattle.fields.specs.Answers.{counted, ofCount};
 ghost use Rattle.rows.specs.Walk.{on};
 ghost use Rattle.topics.specs.Numbers.{Turned};
+use fields::Count;
+use primitives::BYTES_END;
+use primitives::LENGTH_BELOW;
+use primitives::at;
+use rows::less;
 
-// The bit of the sign of four bytes.
+// The bit of the sign of two bytes, and of four.
+const HALF16: u64 = 32768;
+
 const HALF32: u64 = 2147483648;
+
+// All bits from the sign's on, as a negative number has them in its cell.
+const FROM16: u64 = 18446744073709518848;
+
+const FROM32: u64 = 18446744071562067968;
 
 fn wide(x: u8) -> u64
     ensures { λ r. ⌜ (r ≡ x) × (r < 256) ⌝ }
 {
     x as u64
+}
+
+fn turned16(s: &[u8], p: usize) -> u64
+    requires { ⌜ p + 2 ≤ length (now s) ⌝ }
+    ensures { λ r. ⌜ Turned 32768 (be 0 (take 2 (drop p (now (s .entry))))) r ⌝ }
+{
+    let n = wide(s[p]) * 256 + wide(s[p + 1]);
+    (n + HALF16) % 65536
 }
 
 fn turned32(s: &[u8], p: usize) -> u64
@@ -26,19 +45,44 @@ fn turned32(s: &[u8], p: usize) -> u64
     (n + HALF32) % 4294967296
 }
 
-// The cell of a number whose sign's bit was turned over.
-fn cell_of(turned: u64, half: u64) -> u64
-    ensures { λ r. ⌜ r ≡ cond (ltb turned half) (turned + (2 ^ 64 - half)) (turned - half) ⌝ }
+pub(crate) fn int16_there(s: &[u8], p: usize) -> u64
+    requires { ⌜ p + 2 ≤ length (now s) ⌝ }
+    ensures { λ r. ⌜ ok r (p + 2) ≡ on (cell w16) (now (s .entry)) p ⌝ }
 {
-    if turned < half {
-        return turned + (18446744073709551615 - half) + 1;
+    let turned = turned16(s, p);
+    if turned < HALF16 {
+        return turned + FROM16;
     }
-    turned - half
+    turned - HALF16
 }
 
 pub(crate) fn int32_there(s: &[u8], p: usize) -> u64
     requires { ⌜ p + 4 ≤ length (now s) ⌝ }
     ensures { λ r. ⌜ ok r (p + 4) ≡ on (cell w32) (now (s .entry)) p ⌝ }
 {
-    cell_of(turned32(s, p), HALF32)
+    let turned = turned32(s, p);
+    if turned < HALF32 {
+        return turned + FROM32;
+    }
+    turned - HALF32
+}
+
+// The count of an array that may be null, as `places::count_at` reads it.
+pub(crate) fn count_of(s: &[u8], p: usize) -> Count
+    ensures { λ r. ⌜ ofCount r ≡ on (counted (fixed w32 kept)) (now (s .entry)) p ⌝ }
+{
+    if less(s.len(), 3) <= p {
+        return Count::Refused(at(BYTES_END, p));
+    }
+    let turned = turned32(s, p);
+    if HALF32 <= turned {
+        return Count::Took {
+            count: turned - HALF32,
+            used: p + 4,
+        };
+    }
+    if turned == HALF32 - 1 {
+        return Count::Null { used: p + 4 };
+    }
+    Count::Refused(at(LENGTH_BELOW, p))
 }

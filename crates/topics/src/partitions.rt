@@ -2,17 +2,24 @@
 ghost use mathlib.Core.Path.{_≡_};
 ghost use mathlib.Core.Bool.{false};
 ghost use mathlib.Core.List.{[]};
-ghost use Rattle.layout.specs.Reading.{loop};
+ghost use Prim.Native.Nat.{_+_, _<_};
+ghost use lib.ListN.{length};
+ghost use Rattle.layout.specs.Reading.{bad, loop};
+ghost use Rattle.primitives.specs.Answers.{ofRefusal};
 ghost use Rattle.rows.specs.Walk.{Runs, on, rowFrom, walk};
 ghost use Rattle.topics.specs.Shapes.{partitionFront, partitionShape};
-ghost use Rattle.topics.specs.Walks.{inPartitions, ofPartitionRow, partitionsIs};
+ghost use Rattle.topics.specs.Walks.{RowStored, inPartitions, ofPartitionRow, partitionsIs};
 use crate::Marked;
 use crate::Marks;
 use crate::nodes::nodes_at;
-use places::int16_at;
-use places::int32_at;
-use primitives::Number;
+use crate::numbers::int16_there;
+use crate::numbers::int32_there;
+use primitives::BYTES_END;
 use primitives::Refusal;
+use primitives::at;
+use rows::less;
+use rows::skip4;
+use rows::store;
 use rows::store5;
 use walks::Counted;
 
@@ -27,32 +34,58 @@ pub(crate) enum PartitionRow {
     Refused(Refusal),
 }
 
+// Why the numbers of a partition are refused where not all of their bytes are there.
+fn row_missing(s: &[u8], p: usize) -> Refusal
+    requires { ⌜ length (now s) < p + 10 ⌝ }
+    ensures { λ r. ⌜ bad (ofRefusal r) ≡ on (rowFrom [] partitionFront) (now (s .entry)) p ⌝ }
+{
+    let there = less(s.len(), p);
+    if there < 2 {
+        return at(BYTES_END, p);
+    }
+    if there < 6 {
+        return at(BYTES_END, p + 2);
+    }
+    at(BYTES_END, p + 6)
+}
+
+// All bytes are asked for at once.
 fn partition_row(s: &[u8], p: usize) -> PartitionRow
     ensures { λ r. ⌜ ofPartitionRow r ≡ on (rowFrom [] partitionFront) (now (s .entry)) p ⌝ }
 {
-    match int16_at(s, p) {
-        Number::Took {
-            value: error,
-            used: q,
-        } => match int32_at(s, q) {
-            Number::Took {
-                value: index,
-                used: u,
-            } => match int32_at(s, u) {
-                Number::Took {
-                    value: leader,
-                    used: next,
-                } => PartitionRow::Took {
-                    error,
-                    index,
-                    leader,
-                    next,
-                },
-                Number::Refused(e) => PartitionRow::Refused(e),
-            },
-            Number::Refused(e) => PartitionRow::Refused(e),
-        },
-        Number::Refused(e) => PartitionRow::Refused(e),
+    if p < less(s.len(), 9) {
+        return PartitionRow::Took {
+            error: int16_there(s, p),
+            index: int32_there(s, p + 2),
+            leader: int32_there(s, p + 6),
+            next: p + 10,
+        };
+    }
+    PartitionRow::Refused(row_missing(s, p))
+}
+
+// The row of the partition at p, where there is room. Its numbers are read only then, and again: kept, they would cost more.
+fn store_partition(
+    s: &[u8],
+    p: usize,
+    table: &mut [u64],
+    mark: usize,
+    count: u64,
+    synced: u64,
+) -> usize
+    ensures { λ r. ⌜ RowStored (now (s .entry)) p (now (table .entry)) mark count synced (now (table .exit)) r ⌝ }
+{
+    if table.len() <= mark {
+        return store(table, skip4(mark), synced);
+    }
+    match partition_row(s, p) {
+        PartitionRow::Took {
+            error,
+            index,
+            leader,
+            next: _,
+        } => store5(table, mark, error, index, leader, count, synced),
+        PartitionRow::Refused(e) => mark,
     }
 }
 
@@ -69,9 +102,9 @@ fn partition_at(
 {
     match partition_row(s, p) {
         PartitionRow::Took {
-            error,
-            index,
-            leader,
+            error: _,
+            index: _,
+            leader: _,
             next: q,
         } => match nodes_at(s, q, replicas, marks.replicas) {
             Counted::Took {
@@ -84,12 +117,11 @@ fn partition_at(
                     next,
                     mark: last,
                 } => {
-                    let row = store5(
+                    let row = store_partition(
+                        s,
+                        p,
                         partitions,
                         marks.partitions,
-                        error,
-                        index,
-                        leader,
                         count,
                         synced_count,
                     );

@@ -1,0 +1,55 @@
+-- The number with its bit turned over is from half on where the number is a count, and one less than half where it is -1.
+use native.Mathlib.Omega.{arith}
+use Rattle.topics.proofs.Turned.{count-below, count-missing, count-null, count-took}
+use borrow.Author.Needs.{needs}
+use Rattle.topics.proofs.numbers.count_of.Statement.{statement}
+use Rattle.topics.proofs.numbers.count_of.Tie as tie
+
+less-requires : tie.Need-less-requires
+less-requires c κs = search needs
+
+at-requires : tie.Need-at-requires
+at-requires c κs = search needs
+
+returns : tie.Need-returns
+returns c = count-missing _ _ (omega arith) _ (c .at .ensures)
+
+turned32-requires : tie.Need-turned32-requires
+turned32-requires c κs = search needs
+
+add-t9 : tie.Need-add-t9
+add-t9 c = search needs
+
+returns-2 : tie.Need-returns-2
+returns-2 c = count-took _ _ (omega arith) _ (c .before .turned32 .ensures) (omega arith)
+
+sub-if3 : tie.Need-sub-if3
+sub-if3 c = search needs
+
+add-t11 : tie.Need-add-t11
+add-t11 c = search needs
+
+returns-3 : tie.Need-returns-3
+returns-3 c = count-null _ _ (omega arith) _ (c .before .before .turned32 .ensures) (omega arith)
+
+at-requires-2 : tie.Need-at-requires-2
+at-requires-2 c κs = search needs
+
+returns-4 : tie.Need-returns-4
+returns-4 c = count-below _ _ (omega arith) _ (c .before .before .before .turned32 .ensures) (omega arith) (search needs) _ (c .at2 .ensures)
+
+pub count-of-spec : {M : Type 1} → statement M
+count-of-spec =
+    tie.close
+    (tie.spec
+    less-requires
+    at-requires
+    returns
+    turned32-requires
+    add-t9
+    returns-2
+    sub-if3
+    add-t11
+    returns-3
+    at-requires-2
+    returns-4)

@@ -1,0 +1,22 @@
+-- The bytes are there, and the bit that was turned over tells the sign.
+use native.Mathlib.Omega.{arith}
+use Rattle.layout.specs.Primitives.{w16}
+use Rattle.topics.proofs.Turned.{cell-set, cell-unset}
+use borrow.Author.Needs.{needs}
+use Rattle.topics.proofs.numbers.int16_there.Statement.{statement}
+use Rattle.topics.proofs.numbers.int16_there.Tie as tie
+
+turned16-requires : tie.Need-turned16-requires
+turned16-requires c κs = search needs
+
+add-result : tie.Need-add-result
+add-result c = search needs
+
+returns : tie.Need-returns
+returns c = cell-set w16 _ _ _ (search needs) (c .before .turned16 .ensures) (omega arith)
+
+returns-2 : tie.Need-returns-2
+returns-2 c = cell-unset w16 _ _ _ (search needs) (c .before .turned16 .ensures) (omega arith)
+
+pub int16-there-spec : {M : Type 1} → statement M
+int16-there-spec = tie.close (tie.spec turned16-requires add-result returns returns-2)
