@@ -3,8 +3,8 @@ ghost use mathlib.Core.Path.{_≡_};
 ghost use mathlib.Core.Bool.{false};
 ghost use Prim.Native.Nat.{_≤_, min};
 ghost use Rattle.layout.specs.Reading.{loop};
-ghost use Rattle.rows.specs.Walk.{Runs, beside, inPlace, walk};
 ghost use Rattle.rows.specs.Store.{limit};
+ghost use Rattle.rows.specs.Walk.{Runs, beside, inPlace, walk};
 ghost use Rattle.topics.specs.Numbers.{steps};
 ghost use Rattle.topics.specs.Shapes.{nodeShape, nodesShape};
 ghost use Rattle.walks.specs.Answers.{besideIs, filledIs};
@@ -44,7 +44,8 @@ fn passed(mark: usize, n: usize) -> usize
     mark
 }
 
-// `count` nodes from place p on. Their bytes are asked for once, before any is stored: where some are missing nothing that is stored would be told.
+// `count` nodes from place p on, of four bytes each, which are asked for at once. Where some are missing no node need be stored: the tables of a refusal are not told.
+// Nodes without room are not looked at.
 fn nodes_in(s: &[u8], p: usize, count: u64, table: &mut [u64], mark: usize) -> Filled
     ensures { λ r. ⌜ Runs (λ e. loop count (walk false nodeShape (e .o))) (now (s .entry)) p (inPlace (now (table .entry)) mark) (filledIs (now (table .exit)) r) ⌝ }
 {

@@ -1,4 +1,4 @@
-// Numbers whose bytes are known to be there. The bit of the sign is turned over first: the compiler then takes the bytes by one load.
+// Numbers whose bytes are known to be there. The bit of the sign is turned over before it is looked at: only then does the compiler take the bytes by one load.
 ghost use mathlib.Core.Path.{_≡_};
 ghost use Prim.Native.Nat.{_+_, _<_, _≤_};
 ghost use lib.ListN.{drop, length, take};
@@ -29,6 +29,7 @@ fn wide(x: u8) -> u64
     x as u64
 }
 
+// The number with the bit of its sign turned over.
 fn turned16(s: &[u8], p: usize) -> u64
     requires { ⌜ p + 2 ≤ length (now s) ⌝ }
     ensures { λ r. ⌜ Turned 32768 (be 0 (take 2 (drop p (now (s .entry))))) r ⌝ }
@@ -67,7 +68,7 @@ pub(crate) fn int32_there(s: &[u8], p: usize) -> u64
     turned - HALF32
 }
 
-// The count of an array that may be null, as `places::count_at` reads it.
+// The count of an array that may be null, as `places::count_at` reads it, by one load.
 pub(crate) fn count_of(s: &[u8], p: usize) -> Count
     ensures { λ r. ⌜ ofCount r ≡ on (counted (fixed w32 kept)) (now (s .entry)) p ⌝ }
 {

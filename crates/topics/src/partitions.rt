@@ -34,7 +34,7 @@ pub(crate) enum PartitionRow {
     Refused(Refusal),
 }
 
-// Why the numbers of a partition are refused where not all of their bytes are there.
+// Not all bytes of a partition's numbers are there: the first number that is not whole is refused.
 fn row_missing(s: &[u8], p: usize) -> Refusal
     requires { ⌜ length (now s) < p + 10 ⌝ }
     ensures { λ r. ⌜ bad (ofRefusal r) ≡ on (rowFrom [] partitionFront) (now (s .entry)) p ⌝ }
@@ -49,7 +49,7 @@ fn row_missing(s: &[u8], p: usize) -> Refusal
     at(BYTES_END, p + 6)
 }
 
-// All bytes are asked for at once.
+// An INT16 and two INT32: their ten bytes are asked for at once.
 fn partition_row(s: &[u8], p: usize) -> PartitionRow
     ensures { λ r. ⌜ ofPartitionRow r ≡ on (rowFrom [] partitionFront) (now (s .entry)) p ⌝ }
 {
@@ -64,7 +64,7 @@ fn partition_row(s: &[u8], p: usize) -> PartitionRow
     PartitionRow::Refused(row_missing(s, p))
 }
 
-// The row of the partition at p, where there is room. Its numbers are read only then, and again: kept, they would cost more.
+// The row of the partition at p. Its numbers are read again, and only where there is room: to keep them while its arrays are read costs more.
 fn store_partition(
     s: &[u8],
     p: usize,
@@ -85,6 +85,7 @@ fn store_partition(
             leader,
             next: _,
         } => store5(table, mark, error, index, leader, count, synced),
+        // never: it was read before its arrays were
         PartitionRow::Refused(e) => mark,
     }
 }
