@@ -14,7 +14,7 @@ use Rattle.layout.specs.Tables.{cells}
 use Rattle.layout.proofs.Contents.{rowCells}
 use Rattle.places.proofs.Fronts.{cell-at}
 use Rattle.rows.specs.Store.{State, limit, step, store, tab}
-use Rattle.rows.specs.Walk.{Place, Runs, inPlace, on, walk}
+use Rattle.rows.specs.Walk.{Runs, inPlace, on, walk}
 use Rattle.rows.proofs.Flat.{placed-took, row-no, row-took}
 use Rattle.rows.proofs.Front.{reads-end, reads-no, reads-took}
 use Rattle.rows.proofs.Loops.{Going, going-done, going-next, going-start}

@@ -1,26 +1,23 @@
--- Numbers whose bytes are there: by the index of each byte, and as the cell of the number with its sign's bit turned over.
-use mathlib.Core.Bool.{Bool, cond, false, true}
+-- Numbers whose bytes are there: by the index of each byte, and from the number with the bit of its sign turned over, as a cell and as a count. And those whose bytes are missing.
 use mathlib.Core.List.{List}
 use mathlib.Core.Logic.{_≢_}
 use mathlib.Core.Path.{_∙_, _≡_, ap, refl, sym}
 use Prim.Native.Nat.{_*_, _+_, _-_, _<_, _^_, _≤_, ℕ}
 use native.Mathlib.Nat.{add-zero}
 use native.Mathlib.Omega.{arith}
-use lib.Dec.{ltb}
 use lib.ListN.{drop, getD, length, length-drop, take}
 use lib.Seq.{getD-drop}
 use Rattle.layout.specs.Primitives.{Width, be, bits, cell, cellOf, fixed, kept, signed, size, w16, w32, w64, w8}
 use Rattle.layout.specs.Reading.{Reader, Refusal, Res, bad, because, more, ok}
-use Rattle.layout.proofs.Cells.{above, extend-high, extend-low, powers}
-use Rattle.layout.proofs.Tests.{lt-false, lt-true, of-ge, of-lt}
-use Rattle.places.proofs.Fronts.{cell-at, front-cell, front-counted}
-use Rattle.places.proofs.OnRest.{no-at, portable-counted, took-at}
+use Rattle.layout.proofs.Cells.{extend-high, extend-low, powers}
 use Rattle.primitives.proofs.Cells.{be-2, be-4, int-is}
 use Rattle.primitives.specs.declared.Number.{Number}
 use Rattle.fields.specs.Answers.{counted, ofLength}
 use Rattle.fields.proofs.Lengths.{length-below, length-is, length-null, length-some}
 use Rattle.rows.proofs.Moves.{still}
 use Rattle.rows.specs.Walk.{on}
+use Rattle.places.proofs.Fronts.{cell-at, front-cell, front-counted}
+use Rattle.places.proofs.OnRest.{no-at, portable-counted, took-at}
 use Rattle.topics.specs.Numbers.{Turned}
 
 pub bytes-4 : (s : List ℕ) (p : ℕ) → p + 4 ≤ length s → be 0 (take 4 (drop p s)) ≡ ((getD s p 0 * 256 + getD s (p + 1) 0) * 256 + getD s (p + 2) 0) * 256 + getD s (p + 3) 0
