@@ -18,7 +18,7 @@ use Rattle.rows.specs.Walk.{Runs, inPlace, on, walk}
 use Rattle.rows.proofs.Flat.{placed-took, row-no, row-took}
 use Rattle.rows.proofs.Front.{reads-end, reads-no, reads-took}
 use Rattle.rows.proofs.Loops.{Going, going-done, going-next, going-start}
-use Rattle.rows.proofs.Steps.{loop-next, loop-no}
+use Rattle.rows.proofs.Chains.{loop-next, loop-no}
 use Rattle.rows.proofs.Stores.{step-up, store-in, store-out}
 use Rattle.topics.specs.Numbers.{steps}
 use Rattle.topics.specs.Shapes.{nodeShape}

@@ -14,7 +14,7 @@ use Rattle.places.proofs.Fronts.{cell-at}
 use Rattle.primitives.specs.declared.Refusal as Code
 use Rattle.rows.specs.Store.{step, store, tab}
 use Rattle.rows.specs.Walk.{on, rowFrom}
-use Rattle.rows.proofs.Steps.{same-value}
+use Rattle.rows.proofs.Chains.{same-value}
 use Rattle.rows.proofs.Stores.{four-out, store-both}
 use Rattle.rows.proofs.RowCells.{cells-end, cells-no, cells-took}
 use Rattle.topics.specs.Shapes.{partitionFront}
