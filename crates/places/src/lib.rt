@@ -5,7 +5,7 @@ ghost use Rattle.layout.specs.Primitives.{cell, compact, empty, fixed, flag, ke
 ghost use Rattle.layout.specs.Read.{byPlace, readBasic};
 ghost use Rattle.layout.specs.Rows.{blob, text};
 ghost use Rattle.primitives.specs.Answers.{ofFlag, ofNumber};
-ghost use Rattle.fields.specs.Answers.{counted, ofCount, ofField, ofNullable, ofPart, there};
+ghost use Rattle.fields.specs.Answers.{ofCount, ofField, ofNullable, ofPart, there};
 ghost use Rattle.rows.specs.Walk.{on};
 ghost use Rattle.places.specs.Moved.{FieldFits, Fits, PartFits, StartFits, arrayCount, arrayItems, frontAt, fromPlace, further, furtherField, itemsOf};
 use fields::Count;
@@ -206,25 +206,4 @@ pub fn boolean_at(s: &[u8], p: usize) -> Flag
     ensures { λ r. ⌜ ofFlag r ≡ on flag (now (s .entry)) p ⌝ }
 {
     flag_moved(numbers::boolean(parts::rest(s, p)), p)
-}
-
-fn count_moved(c: Count, p: usize) -> Count
-    requires { ⌜ Fits p (ofCount c) ⌝ }
-    ensures { λ r. ⌜ ofCount r ≡ fromPlace (λ d x. x) p (ofCount c) ⌝ }
-{
-    match c {
-        Count::Null { used } => Count::Null { used: p + used },
-        Count::Took { count, used } => Count::Took {
-            count,
-            used: p + used,
-        },
-        Count::Refused(e) => Count::Refused(at(e.number, p)),
-    }
-}
-
-// The count of an array that may be null.
-pub fn count_at(s: &[u8], p: usize) -> Count
-    ensures { λ r. ⌜ ofCount r ≡ on (counted (fixed w32 kept)) (now (s .entry)) p ⌝ }
-{
-    count_moved(counts::length32(front(s, p, 3)), p)
 }

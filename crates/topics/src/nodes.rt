@@ -8,7 +8,7 @@ ghost use Rattle.rows.specs.Walk.{Runs, beside, inPlace, walk};
 ghost use Rattle.topics.specs.Numbers.{steps};
 ghost use Rattle.topics.specs.Shapes.{nodeShape, nodesShape};
 ghost use Rattle.walks.specs.Answers.{besideIs, filledIs};
-use crate::numbers::count_of;
+use crate::numbers::count_at;
 use crate::numbers::int32_there;
 use fields::Count;
 use primitives::BYTES_END;
@@ -73,7 +73,7 @@ fn nodes_in(s: &[u8], p: usize, count: u64, table: &mut [u64], mark: usize) -> F
 pub(crate) fn nodes_at(s: &[u8], p: usize, table: &mut [u64], mark: usize) -> Counted
     ensures { λ r. ⌜ Runs (λ e. walk false (nodesShape (e .0 .t)) (e .0 .o)) (now (s .entry)) p (beside (now (table .entry)) mark) (besideIs (now (table .exit)) r) ⌝ }
 {
-    match count_of(s, p) {
+    match count_at(s, p) {
         Count::Took { count, used } => match nodes_in(s, used, count, table, mark) {
             Filled::Took { next, mark: behind } => Counted::Took {
                 count,

@@ -68,8 +68,8 @@ pub(crate) fn int32_there(s: &[u8], p: usize) -> u64
     turned - HALF32
 }
 
-// The count of an array that may be null, as `places::count_at` reads it, by one load.
-pub(crate) fn count_of(s: &[u8], p: usize) -> Count
+// The count of an array that may be null.
+pub(crate) fn count_at(s: &[u8], p: usize) -> Count
     ensures { λ r. ⌜ ofCount r ≡ on (counted (fixed w32 kept)) (now (s .entry)) p ⌝ }
 {
     if less(s.len(), 3) <= p {

@@ -2,8 +2,8 @@
 use native.Mathlib.Omega.{arith}
 use Rattle.topics.proofs.Turned.{count-below, count-missing, count-null, count-took}
 use borrow.Author.Needs.{needs}
-use Rattle.topics.proofs.numbers.count_of.Statement.{statement}
-use Rattle.topics.proofs.numbers.count_of.Tie as tie
+use Rattle.topics.proofs.numbers.count_at.Statement.{statement}
+use Rattle.topics.proofs.numbers.count_at.Tie as tie
 
 less-requires : tie.Need-less-requires
 less-requires c κs = search needs
@@ -38,8 +38,8 @@ at-requires-2 c κs = search needs
 returns-4 : tie.Need-returns-4
 returns-4 c = count-below _ _ (omega arith) _ (c .before .before .before .turned32 .ensures) (omega arith) (search needs) _ (c .at2 .ensures)
 
-pub count-of-spec : {M : Type 1} → statement M
-count-of-spec =
+pub count-at-spec : {M : Type 1} → statement M
+count-at-spec =
     tie.close
     (tie.spec
     less-requires
