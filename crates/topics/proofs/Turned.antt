@@ -17,7 +17,7 @@ use Rattle.fields.proofs.Lengths.{length-below, length-is, length-null, length-
 use Rattle.rows.proofs.Moves.{still}
 use Rattle.rows.specs.Walk.{on}
 use Rattle.places.proofs.Fronts.{cell-at, front-cell, front-counted}
-use Rattle.places.proofs.OnRest.{no-at, portable-counted, took-at}
+use Rattle.places.proofs.OnRest.{at-place, portable-counted, took-at}
 use Rattle.topics.specs.Numbers.{Turned}
 
 pub bytes-4 : (s : List ℕ) (p : ℕ) → p + 4 ≤ length s → be 0 (take 4 (drop p s)) ≡ ((getD s p 0 * 256 + getD s (p + 1) 0) * 256 + getD s (p + 2) 0) * 256 + getD s (p + 3) 0
@@ -107,4 +107,4 @@ module _ (s : List ℕ) (p : ℕ) where
     pub count-below : m < 2147483648 → m ≢ 2147483647 → (c : Refusal) → c ≡ because 4 p → bad c ≡ on count s p
     count-below i j c e =
         let b = t .given i in
-        no-at count still (portable-counted (fixed w32 kept)) s (drop p s) p refl (because 4 0) c (judged _ (length-below (Number.Took number 4) 2147483648 4294967295 number 4 refl (omega arith) (λ z. j (omega arith)) (because 4 0) refl)) e
+        at-place count still (portable-counted (fixed w32 kept)) s (drop p s) p refl (bad (because 4 0)) _ (judged _ (length-below (Number.Took number 4) 2147483648 4294967295 number 4 refl (omega arith) (λ z. j (omega arith)) (because 4 0) refl)) (ap bad e)
