@@ -3,6 +3,7 @@
 Everything that is judged, is judged there. Here arguments are parsed, names looked up, and lines laid out."""
 import json
 import pathlib
+import shutil
 import subprocess
 import sys
 
@@ -39,11 +40,10 @@ def built(program):
     newest = max(f.stat().st_mtime for f in [ROOT / "crates.txt", *(ROOT / "crates").rglob("*")])
     if binary.exists() and stamp.exists() and newest <= stamp.stat().st_mtime:
         return binary
-    print(f"befrolan: proving and building {program}; the first time this takes some minutes", file=sys.stderr)
-    try:
-        made = subprocess.Popen(["rt", "check", program], cwd=ROOT, stdout=subprocess.PIPE, stderr=subprocess.STDOUT, text=True)
-    except OSError:
+    if shutil.which("rt") is None:
         sys.exit(fail("the Rattle kit is not here: there is no command rt"))
+    print(f"befrolan: proving and building {program}; the first time this takes some minutes", file=sys.stderr)
+    made = subprocess.Popen([ROOT / "tools/rt", "check", program], cwd=ROOT, stdout=subprocess.PIPE, stderr=subprocess.STDOUT, text=True)
     last = []
     for line in made.stdout:
         last = (last + [line])[-20:]
