@@ -16,5 +16,3 @@ pub mod Meant
 pub mod Whole
 -- a promise determines reply and output
 pub mod Unique
--- what was written comes back whole at its version, and is refused at the others
-pub mod ComesBack

@@ -16,7 +16,7 @@ use Rattle.layout.proofs.Every.{All, Every, EveryMaybe, Few, Within}
 use Rattle.layout.proofs.Link.{itemsCell}
 use Rattle.layout.proofs.Same.{lay, layAll, layMaybe, length-push, push}
 
-pop-push : (t w : ℕ) (cs : List ℕ) (st : Tables) → t < length st → length cs ≡ w → pop t w (push t cs st) ≡ (cs, st)
+pub pop-push : (t w : ℕ) (cs : List ℕ) (st : Tables) → t < length st → length cs ≡ w → pop t w (push t cs st) ≡ (cs, st)
 unfolding pop push
 pop-push t w cs st h l =
     let e : getD (set st t (cs ++ getD st t [])) t [] ≡ cs ++ getD st t [] = getD-set-same st t (cs ++ getD st t []) [] h in
@@ -82,7 +82,7 @@ module _ (b : List ℕ) (N : ℕ) (P : Span → Type 0) where
   basic-is (blob z) x = span-is (keeps z) x
   basic-is (optional d k) x = basic-is k x
 
-  takes-all : {A B : Type 0} (d : Tables → B × Tables) (g : A → Tables → Tables) (f : A → B) (Q : A → Type 0) → ((x : A) → Q x → Takes N d (g x) (f x)) → (xs : List A) → All Q xs → Takes N (times (length xs) d) (layAll g xs) (map f xs)
+  pub takes-all : {A B : Type 0} (d : Tables → B × Tables) (g : A → Tables → Tables) (f : A → B) (Q : A → Type 0) → ((x : A) → Q x → Takes N d (g x) (f x)) → (xs : List A) → All Q xs → Takes N (times (length xs) d) (layAll g xs) (map f xs)
   unfolding times
   takes-all d g f Q h [] p = record { law = λ st e. refl; stays = λ st e. e }
   takes-all d g f Q h (x ∷ xs) p =

@@ -43,7 +43,7 @@ Kinds L (absent k r) = Kinds L r
 Kinds L (array z u i r) = (kindOf u L ≡ i) × Kinds L i × Kinds L r
 Kinds L (lacking z u i r) = Kinds L r
 
-kinds-wide : (L l : Shape) → Kinds L l → Wide (λ t. rowWidth (kindOf t L)) l
+pub kinds-wide : (L l : Shape) → Kinds L l → Wide (λ t. rowWidth (kindOf t L)) l
 kinds-wide L end h = tt
 kinds-wide L (field k r) h = kinds-wide L r h
 kinds-wide L (absent k r) h = kinds-wide L r h

@@ -27,12 +27,19 @@ pub mod Same
 pub mod Decode
 pub mod Parts
 pub mod Trip
+-- what is written comes back settled: absent where the version lacks it, at its default where it was unset
+pub mod Settled
+pub mod SettledRows
 -- what each table holds, and the need; 13 is not given for what was read
 pub mod Contents
 pub mod Good
 -- messages: what each owes, and the laws of its calls
 pub mod Proper
 pub mod Calls
+pub mod Room
+-- every row that was written comes back
+pub mod AllRows
+pub mod Returned
 -- ApiVersions responses: no body is good at two layouts, what was read is written again, and the mission's third demand
 pub mod Exclusive
 pub mod Again

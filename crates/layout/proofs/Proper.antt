@@ -23,7 +23,7 @@ pub both : (a b : Bool) → (a && b) ≡ true → (a ≡ true) × (b ≡ true)
 both true b h = (refl, h)
 both false b h = let z : _≡_ {A = ℕ} 0 1 = cc in absurd (omega arith)
 
-is-not : (b : Bool) → not b ≡ true → b ≡ false
+pub is-not : (b : Bool) → not b ≡ true → b ≡ false
 is-not true h = sym h
 is-not false h = refl
 
@@ -70,7 +70,7 @@ pub record Owes (n : ℕ) (L l : Shape) : Type 0 where
   pub eating : Eating l
   pub wide : Wide (λ t. rowWidth (kindOf t L)) l
 
-avoids-free : (o : ℕ) (l : Shape) → avoids o l ≡ true → Free o l
+pub avoids-free : (o : ℕ) (l : Shape) → avoids o l ≡ true → Free o l
 unfolding avoids
 avoids-free o end h = tt
 avoids-free o (field k r) h = avoids-free o r h

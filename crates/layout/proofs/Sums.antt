@@ -1,6 +1,6 @@
 -- Sums over lists, and lists of lists.
 use mathlib.Core.Bool.{Bool, cond, false, true}
-use mathlib.Core.List.{List, [], _++_, _∷_}
+use mathlib.Core.List.{List, [], _++_, _∷_, map}
 use mathlib.Core.Logic.{_≢_}
 use mathlib.Core.Path.{_∙_, _≡_, ap, refl, sym}
 use Prim.Native.Nat.{_+_, _<_, _≤_, suc, zero, ℕ}
@@ -33,6 +33,11 @@ pub sum-zero : {A : Type 0} (g : A → ℕ) → ((x : A) → g x ≡ 0) → (xs 
 unfolding sum
 sum-zero g e [] = refl
 sum-zero g e (x ∷ xs) = λ i. e x i + sum-zero g e xs i
+
+pub sum-map : {A B : Type 0} (g : B → ℕ) (f : A → B) (xs : List A) → sum g (map f xs) ≡ sum (λ x. g (f x)) xs
+unfolding sum
+sum-map g f [] = refl
+sum-map g f (x ∷ xs) = ap (λ (n : ℕ). g (f x) + n) (sum-map g f xs)
 
 pub sum-append : {A : Type 0} (g : A → ℕ) (xs ys : List A) → sum g (xs ++ ys) ≡ sum g xs + sum g ys
 unfolding sum

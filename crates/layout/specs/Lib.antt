@@ -15,6 +15,8 @@ pub mod Write
 pub mod Tables
 -- the whole reply of every call
 pub mod Answers
+-- what comes back of what was written, cell by cell
+pub mod Settled
 -- the rows of each message
 pub mod Messages
 -- version agreement and address lookup

@@ -1,0 +1,12 @@
+-- the first demand, of every call of the C interface that can refuse; below it, what writes and primitives by themselves refuse
+pub mod Faults
+pub mod Alone
+pub mod Demand1
+-- the second demand: what is accepted, and what is not refused
+pub mod Demand2
+-- rows of an ApiVersions response in numbers
+pub mod Numbers
+-- the third demand, of the calls `response::write` and `response::read_whole`
+pub mod Demand3
+-- what comes back of requests
+pub mod Requests

@@ -1,0 +1,1 @@
+// What the mission demands, said of the calls: definitions and laws alone.

@@ -1,0 +1,294 @@
+-- Every row comes back. The counts of the tables that were lent add up, and so do those of the tables that a read of the written bytes fills; a row that comes back asks for as many rows as
+-- the one that was lent. So table by table, each after those whose rows ask for its rows, as many rows come back as were lent, and all of them settled. For every shape.
+use mathlib.Core.Bool.{Bool, _&&_, cond, false, not, true}
+use mathlib.Core.List.{List, [], _++_, _∷_, map}
+use mathlib.Core.Path.{_∙_, _≡_, ap, refl, subst, sym}
+use Prim.Native.Nat.{_+_, _/_, _<_, _≤_, suc, zero, ℕ}
+use native.Mathlib.Nat.{zero-add}
+use native.Mathlib.Omega.{arith}
+use lib.Dec.{eqb, ltb}
+use lib.ListN.{drop, getD, length, take}
+use lib.Seq.{drop-at}
+use borrow.Author.Tests.{ne-eqb}
+use Rattle.layout.specs.Primitives.{Size, keeps, minus}
+use Rattle.layout.specs.Rows.{Basic, Shape, absent, array, blob, boolean, end, field, lacking, level, natural, number, optional, text}
+use Rattle.layout.specs.Tables.{Tables, addsUp, all, asked, chunks, count, from, good, goodRow, kindOf, rowWidth, rowsAt, rowsOf, sum, width}
+use Rattle.layout.specs.Answers.{Message, meant, most, shape}
+use Rattle.layout.specs.Settled.{Returned, Shown, gone, num, part, settledCells, settledCount, settledRow, settledSpan, shownCells, shownRow, shownSpan}
+use Rattle.layout.proofs.Contents.{Holds, free-rows, joined, tables-hold}
+use Rattle.layout.proofs.Every.{All}
+use Rattle.layout.proofs.Good.{Kinds, NoNull, Writable, read-good}
+use Rattle.layout.proofs.Proper.{Owes, all-from, avoids, avoids-free, both, is-not, owed, proper, width-same, widthAt}
+use Rattle.layout.proofs.SettledRows.{own-settled, rows-settled, tables-read}
+use Rattle.layout.proofs.Sums.{sum-eq, sum-map, sum-same, sum-zero}
+use Rattle.layout.proofs.Tests.{of-eq, of-lt}
+use Rattle.layout.proofs.Trip.{Laid}
+
+-- ---- what a row asks of a table, told from what is shown of the row
+
+-- how many pieces are shown of a field
+unfoldable pieces : Basic → ℕ
+pieces (number w) = 1
+pieces boolean = 1
+pieces level = 1
+pieces natural = 1
+pieces (text z) = cond (keeps z) 2 1
+pieces (blob z) = cond (keeps z) 2 1
+pieces (optional d k) = suc (pieces k)
+
+span-pieces : (b : List ℕ) (t : Bool) (cs : List ℕ) → length (shownSpan b t cs) ≡ cond t 2 1
+unfolding shownSpan
+span-pieces b true cs = refl
+span-pieces b false cs = refl
+
+shown-pieces : (b : List ℕ) (k : Basic) (cs : List ℕ) → length (shownCells b k cs) ≡ pieces k
+unfolding shownCells pieces
+shown-pieces b (number w) cs = refl
+shown-pieces b boolean cs = refl
+shown-pieces b level cs = refl
+shown-pieces b natural cs = refl
+shown-pieces b (text z) cs = span-pieces b (keeps z) cs
+shown-pieces b (blob z) cs = span-pieces b (keeps z) cs
+shown-pieces b (optional d k) cs = ap suc (shown-pieces b k (drop 1 cs))
+
+back-pieces : (b : List ℕ) (t : Bool) (cs : List ℕ) → length (settledSpan b t cs) ≡ cond t 2 1
+unfolding settledSpan
+back-pieces b true cs = go (eqb (getD cs 0 0) 2)
+  where
+    go : (c : Bool) → length (cond c (shownSpan b true cs) (num 1 ∷ part [] ∷ [])) ≡ 2
+    go true = span-pieces b true cs
+    go false = refl
+back-pieces b false cs = span-pieces b false cs
+
+settled-pieces : (b : List ℕ) (k : Basic) (cs : List ℕ) → length (settledCells b k cs) ≡ pieces k
+unfolding settledCells shownCells pieces
+settled-pieces b (number w) cs = refl
+settled-pieces b boolean cs = refl
+settled-pieces b level cs = refl
+settled-pieces b natural cs = refl
+settled-pieces b (text z) cs = back-pieces b (keeps z) cs
+settled-pieces b (blob z) cs = back-pieces b (keeps z) cs
+settled-pieces b (optional d k) cs = ap suc (settled-pieces b k (cond (eqb (getD cs 0 0) 0) d (drop 1 cs)))
+
+gone-pieces : (k : Basic) → length (gone k) ≡ pieces k
+unfolding gone pieces
+gone-pieces (number w) = refl
+gone-pieces boolean = refl
+gone-pieces level = refl
+gone-pieces natural = refl
+gone-pieces (text z) = shown-pieces [] (text z) []
+gone-pieces (blob z) = shown-pieces [] (blob z) []
+gone-pieces (optional d k) = shown-pieces [] (optional d k) []
+
+abbrev numOf : Shown → ℕ
+numOf (num n) = n
+numOf (part bs) = 0
+
+-- the rows of table t that the counts shown of a row tell, but for arrays that the version lacks
+unfoldable askedOf : ℕ → Shape → List Shown → ℕ
+askedOf t end s = 0
+askedOf t (field k r) s = askedOf t r (drop (pieces k) s)
+askedOf t (absent k r) s = askedOf t r (drop (pieces k) s)
+askedOf t (array z u i r) s = cond (eqb t u) (count (numOf (getD s 0 (num 0)))) 0 + askedOf t r (drop 1 s)
+askedOf t (lacking z u i r) s = askedOf t r (drop 1 s)
+
+-- no array that the version lacks has its items in table t
+unfoldable pub unlacked : ℕ → Shape → Bool
+unlacked t end = true
+unlacked t (field k r) = unlacked t r
+unlacked t (absent k r) = unlacked t r
+unlacked t (array z u i r) = unlacked t r
+unlacked t (lacking z u i r) = not (eqb t u) && unlacked t r
+
+-- no array at all
+unfoldable pub mute : ℕ → Shape → Bool
+mute t end = true
+mute t (field k r) = mute t r
+mute t (absent k r) = mute t r
+mute t (array z u i r) = not (eqb t u) && mute t r
+mute t (lacking z u i r) = not (eqb t u) && mute t r
+
+not-this : (t u : ℕ) (c a : ℕ) → not (eqb t u) ≡ true → cond (eqb t u) c 0 + a ≡ a
+not-this t u c a h = ap (λ (b : Bool). cond b c 0 + a) (is-not (eqb t u) h) ∙ zero-add a
+
+asked-shown : (b : List ℕ) (t : ℕ) (l : Shape) (cs : List ℕ) → unlacked t l ≡ true → askedOf t l (shownRow b l cs) ≡ asked t l cs
+unfolding askedOf shownRow asked unlacked
+asked-shown b t end cs h = refl
+asked-shown b t (field k r) cs h =
+    ap (askedOf t r) (drop-at (shownCells b k (take (width k) cs)) (shownRow b r (drop (width k) cs)) (pieces k) (shown-pieces b k (take (width k) cs))) ∙ asked-shown b t r (drop (width k) cs) h
+asked-shown b t (absent k r) cs h =
+    ap (askedOf t r) (drop-at (shownCells b k (take (width k) cs)) (shownRow b r (drop (width k) cs)) (pieces k) (shown-pieces b k (take (width k) cs))) ∙ asked-shown b t r (drop (width k) cs) h
+asked-shown b t (array z u i r) cs h = ap (λ (n : ℕ). cond (eqb t u) (count (getD cs 0 0)) 0 + n) (asked-shown b t r (drop 1 cs) h)
+asked-shown b t (lacking z u i r) cs h =
+    let a = both (not (eqb t u)) (unlacked t r) h in
+    asked-shown b t r (drop 1 cs) (a .1) ∙ sym (not-this t u (count (getD cs 0 0)) (asked t r (drop 1 cs)) (a .0))
+
+count-settled : (z : Size) (c : ℕ) → count (settledCount z c) ≡ count c
+unfolding settledCount count
+count-settled z c = go (keeps z) (eqb c minus) refl
+  where
+    go : (b e : Bool) → eqb c minus ≡ e → count (cond b c (cond e 0 c)) ≡ count c
+    go true e d = refl
+    go false true d = rw d
+    go false false d = refl
+
+asked-settled : (b : List ℕ) (t : ℕ) (l : Shape) (cs : List ℕ) → unlacked t l ≡ true → askedOf t l (settledRow b l cs) ≡ asked t l cs
+unfolding askedOf settledRow asked unlacked
+asked-settled b t end cs h = refl
+asked-settled b t (field k r) cs h =
+    ap (askedOf t r) (drop-at (settledCells b k (take (width k) cs)) (settledRow b r (drop (width k) cs)) (pieces k) (settled-pieces b k (take (width k) cs))) ∙ asked-settled b t r (drop (width k) cs) h
+asked-settled b t (absent k r) cs h = ap (askedOf t r) (drop-at (gone k) (settledRow b r (drop (width k) cs)) (pieces k) (gone-pieces k)) ∙ asked-settled b t r (drop (width k) cs) h
+asked-settled b t (array z u i r) cs h = λ j. cond (eqb t u) (count-settled z (getD cs 0 0) j) 0 + asked-settled b t r (drop 1 cs) h j
+asked-settled b t (lacking z u i r) cs h =
+    let a = both (not (eqb t u)) (unlacked t r) h in
+    asked-settled b t r (drop 1 cs) (a .1) ∙ sym (not-this t u (count (getD cs 0 0)) (asked t r (drop 1 cs)) (a .0))
+
+mute-asks : (t : ℕ) (l : Shape) (cs : List ℕ) → mute t l ≡ true → asked t l cs ≡ 0
+unfolding mute asked
+mute-asks t end cs h = refl
+mute-asks t (field k r) cs h = mute-asks t r (drop (width k) cs) h
+mute-asks t (absent k r) cs h = mute-asks t r (drop (width k) cs) h
+mute-asks t (array z u i r) cs h = let a = both (not (eqb t u)) (mute t r) h in not-this t u (count (getD cs 0 0)) (asked t r (drop 1 cs)) (a .0) ∙ mute-asks t r (drop 1 cs) (a .1)
+mute-asks t (lacking z u i r) cs h = let a = both (not (eqb t u)) (mute t r) h in not-this t u (count (getD cs 0 0)) (asked t r (drop 1 cs)) (a .0) ∙ mute-asks t r (drop 1 cs) (a .1)
+
+-- ---- which tables can be followed
+
+-- F: the tables whose rows the version has; n tables in all
+module _ (F : ℕ → Bool) (n : ℕ) (l : Shape) where
+  -- the arrays of table t are there, and the rows that they stand in are those of tables before it that the version has
+  unfoldable pub follows : ℕ → Bool
+  follows t = unlacked t l && all (λ u. unlacked t (kindOf u l) && cond (mute t (kindOf u l)) true (ltb u t && F u)) (from 1 n)
+
+  -- a table that the version lacks is named by no array
+  unfoldable pub followed : Bool
+  followed = all (λ t. cond (F t) (follows t) (avoids t l)) (from 1 n)
+
+  at-table : followed ≡ true → (t : ℕ) → 1 ≤ t → t ≤ n → cond (F t) (follows t) (avoids t l) ≡ true
+  unfolding followed
+  at-table h t a b = all-from (λ t. cond (F t) (follows t) (avoids t l)) 1 n t h a (omega arith)
+
+in-from : (s n : ℕ) (P : ℕ → Type 0) → ((u : ℕ) → s ≤ u → u < s + n → P u) → All P (from s n)
+unfolding from
+in-from s zero P h = tt
+in-from s (suc n) P h = (h s (omega arith) (omega arith), in-from (suc s) n P (λ u a b. h u (omega arith) (omega arith)))
+
+-- the counts of good tables add up
+adds : (size n : ℕ) (l : Shape) (st : Tables) → good size n l st ≡ true → (t : ℕ) → 1 ≤ t → t ≤ n →
+    asked t l (getD st 0 []) + sum (λ u. sum (asked t (kindOf u l)) (rowsAt l st u)) (from 1 n) ≡ length (rowsAt l st t)
+unfolding good addsUp
+adds size n l st h t a b =
+    let x = both (goodRow size l (getD st 0 [])) _ h in
+    let y = both (all (λ t. all (goodRow size (kindOf t l)) (rowsAt l st t)) (from 1 n)) (all (addsUp size n l st) (from 1 n)) (x .1) in
+    of-eq _ _ (all-from (addsUp size n l st) 1 n t (y .1) a (omega arith))
+
+length-chunks : (n w : ℕ) (cs : List ℕ) → length (chunks n w cs) ≡ n
+unfolding chunks
+length-chunks zero w cs = refl
+length-chunks (suc n) w cs = ap suc (length-chunks n w (drop w cs))
+
+all-chunks : (w : ℕ) (cs : List ℕ) → chunks (length (rowsOf w cs)) w cs ≡ rowsOf w cs
+unfolding rowsOf
+all-chunks w cs = ap (λ (n : ℕ). chunks n w cs) (length-chunks (length cs / w) w cs)
+
+-- ---- the tables su, read from bs, and the tables st that were lent with `lent`: as many rows as are read are the first that were lent
+
+module _ (F : ℕ → Bool) (n : ℕ) (l : Shape) (lent bs : List ℕ) (st su : Tables) (test : followed F n l ≡ true) (own : shownRow bs l (getD su 0 []) ≡ settledRow lent l (getD st 0 []))
+    (rows : (t : ℕ) → 1 ≤ t → t ≤ n → map (shownRow bs (kindOf t l)) (rowsAt l su t) ≡ map (settledRow lent (kindOf t l)) (chunks (length (rowsAt l su t)) (rowWidth (kindOf t l)) (getD st t [])))
+    (lent-good : good (length lent) n l st ≡ true) (read-again : good (length bs) n l su ≡ true) where
+  -- all of table t comes back
+  abbrev Same : ℕ → Type 0
+  Same t = map (shownRow bs (kindOf t l)) (rowsAt l su t) ≡ map (settledRow lent (kindOf t l)) (rowsAt l st t)
+
+  -- rows that come back ask alike
+  asks-same : (t u : ℕ) → unlacked t (kindOf u l) ≡ true → Same u → sum (asked t (kindOf u l)) (rowsAt l su u) ≡ sum (asked t (kindOf u l)) (rowsAt l st u)
+  asks-same t u h same =
+      let K = kindOf u l in
+      sum-eq (asked t K) (λ r. askedOf t K (shownRow bs K r)) (λ r. sym (asked-shown bs t K r h)) (rowsAt l su u) ∙ sym (sum-map (askedOf t K) (shownRow bs K) (rowsAt l su u))
+      ∙ ap (sum (askedOf t K)) same
+      ∙ sum-map (askedOf t K) (settledRow lent K) (rowsAt l st u) ∙ sum-eq (λ r. askedOf t K (settledRow lent K r)) (asked t K) (λ r. asked-settled lent t K r h) (rowsAt l st u)
+
+  asks : (t u : ℕ) → (unlacked t (kindOf u l) && cond (mute t (kindOf u l)) true (ltb u t && F u)) ≡ true → (u < t → F u ≡ true → Same u) →
+      sum (asked t (kindOf u l)) (rowsAt l su u) ≡ sum (asked t (kindOf u l)) (rowsAt l st u)
+  asks t u h before = let a = both (unlacked t (kindOf u l)) _ h in go (a .0) (mute t (kindOf u l)) refl (a .1)
+    where
+      go : unlacked t (kindOf u l) ≡ true → (c : Bool) → mute t (kindOf u l) ≡ c → cond c true (ltb u t && F u) ≡ true → sum (asked t (kindOf u l)) (rowsAt l su u) ≡ sum (asked t (kindOf u l)) (rowsAt l st u)
+      go k true e d = sum-zero (asked t (kindOf u l)) (λ r. mute-asks t (kindOf u l) r e) (rowsAt l su u) ∙ sym (sum-zero (asked t (kindOf u l)) (λ r. mute-asks t (kindOf u l) r e) (rowsAt l st u))
+      go k false e d = let b = both (ltb u t) (F u) d in asks-same t u k (before (of-lt u t (b .0)) (b .1))
+
+  as-many : (t : ℕ) → 1 ≤ t → t ≤ n → F t ≡ true → ((u : ℕ) → 1 ≤ u → u ≤ n → u < t → F u ≡ true → Same u) → length (rowsAt l su t) ≡ length (rowsAt l st t)
+  unfolding follows
+  as-many t a b f before =
+      let x = both (unlacked t l) _ (ap (λ (c : Bool). cond c (follows F n l t) (avoids t l)) (sym f) ∙ at-table F n l test t a b) in
+      let c : asked t l (getD su 0 []) ≡ asked t l (getD st 0 []) = sym (asked-shown bs t l (getD su 0 []) (x .0)) ∙ ap (askedOf t l) own ∙ asked-settled lent t l (getD st 0 []) (x .0) in
+      let d : sum (λ u. sum (asked t (kindOf u l)) (rowsAt l su u)) (from 1 n) ≡ sum (λ u. sum (asked t (kindOf u l)) (rowsAt l st u)) (from 1 n) =
+      sum-same (λ u. (1 ≤ u) × (u ≤ n)) _ _ (λ u h. asks t u (all-from (λ u. unlacked t (kindOf u l) && cond (mute t (kindOf u l)) true (ltb u t && F u)) 1 n u (x .1) (h .0) (let k = h .1 in omega arith)) (λ i g. before u (h .0) (h .1) i g))
+      (from 1 n) (in-from 1 n (λ u. (1 ≤ u) × (u ≤ n)) (λ u i j. (i, omega arith))) in
+      sym (adds (length bs) n l su read-again t a b) ∙ (λ i. c i + d i) ∙ adds (length lent) n l st lent-good t a b
+
+  from-below : (k t : ℕ) → t < k → 1 ≤ t → t ≤ n → F t ≡ true → Same t
+  from-below zero t h a b f = absurd (omega arith)
+  from-below (suc k) t h a b f =
+      let e = as-many t a b f (λ u i j g c. from-below k u (omega arith) i j c) in
+      let z : chunks (length (rowsAt l st t)) (rowWidth (kindOf t l)) (getD st t []) ≡ rowsAt l st t = unfold rowsAt in all-chunks (rowWidth (kindOf t l)) (getD st t []) in
+      rows t a b ∙ ap (map (settledRow lent (kindOf t l))) (ap (λ (m : ℕ). chunks m (rowWidth (kindOf t l)) (getD st t [])) e ∙ z)
+
+  pub every-row : (t : ℕ) → 1 ≤ t → t ≤ n → F t ≡ true → Same t
+  every-row t a b f = from-below (suc t) t (omega arith) a b f
+
+-- ---- the theorem, of a message
+
+-- what version v owes, where it has the rows of the tables F
+pub record Follows (m : Message) (F : ℕ → Bool) (v : ℕ) : Type 0 where
+  pub kinds : Kinds (shape m v) (shape m v)
+  pub no-null : NoNull (shape m v)
+  -- 13 is judged alike at this version
+  pub judged : (size : ℕ) (st : Tables) → good size (m .tables) (shape m 0) st ≡ good size (m .tables) (shape m v) st
+  pub test : followed F (m .tables) (shape m v) ≡ true
+
+module _ (m : Message) (h : proper m ≡ true) (F : ℕ → Bool) (v : ℕ) (known : v ≤ m .last) (o : Follows m F v) (w : Bool) (lent : List ℕ) (st : Tables) (bs : List ℕ) (n : ℕ)
+    (tables-lent : length st ≡ suc (m .tables)) (short : length bs ≤ most) (lent-good : good (length lent) (m .tables) (shape m 0) st ≡ true)
+    (d : Laid w (shape m v) (suc (m .tables)) bs (meant lent st (shape m v)) n) where
+  abbrev l : Shape
+  l = shape m v
+
+  owes : Owes (suc (m .tables)) (shape m v) (shape m v)
+  owes = owed m h v known
+
+  wide : (t : ℕ) → 1 ≤ t → t ≤ m .tables → 0 < rowWidth (kindOf t (shape m v))
+  unfolding widthAt
+  wide t a b = width-same m h v known t a b .0
+
+  apart : (t : ℕ) → 1 ≤ t → eqb t 0 ≡ false
+  apart t a = ne-eqb t 0 (λ e. omega arith)
+
+  writable : Writable (m .tables) (shape m v)
+  writable = record {
+    within-it = owes .names;
+    free = owes .free;
+    tree = owes .tree;
+    eats = owes .eating;
+    no-null = o .no-null;
+    kinds = o .kinds;
+    named = in-from 1 (m .tables) (λ t. (eqb t 0 ≡ false) × (0 < rowWidth (kindOf t (shape m v)))) (λ t a b. (apart t a, wide t a (omega arith)));
+  }
+
+  holds : Holds w (shape m v) bs n (d .st)
+  holds = tables-hold w (shape m v) (suc (m .tables)) bs (d .st) n (omega arith) (owes .names) (owes .free) (owes .tree) (d .reads)
+
+  own-back : shownRow bs (shape m v) (getD (d .st) 0 []) ≡ settledRow lent (shape m v) (getD st 0 [])
+  own-back = own-settled w (shape m v) (suc (m .tables)) lent st bs n (omega arith) (owes .names) (owes .eating) (omega arith) (owes .free) d (omega arith)
+
+  rows-back : (t : ℕ) → 1 ≤ t → t ≤ m .tables → map (shownRow bs (kindOf t (shape m v))) (rowsAt (shape m v) (d .st) t) ≡
+      map (settledRow lent (kindOf t (shape m v))) (chunks (length (rowsAt (shape m v) (d .st) t)) (rowWidth (kindOf t (shape m v))) (getD st t []))
+  unfolding rowsAt
+  rows-back t a b = rows-settled w (shape m v) (suc (m .tables)) lent st bs n (omega arith) (owes .names) (owes .eating) (omega arith) (owes .free) d (owes .tree) (o .kinds) t (apart t a) (wide t a b) (omega arith)
+
+  pub returned : Returned m F v lent st bs (d .st)
+  returned = record {
+    tables = tables-read w (shape m v) (suc (m .tables)) lent st bs n (omega arith) (owes .names) (owes .eating) (omega arith) (owes .free) d;
+    own-row = own-back;
+    rows = every-row F (m .tables) (shape m v) lent bs st (d .st) (o .test) own-back rows-back (sym (o .judged (length lent) st) ∙ lent-good) (read-good w (m .tables) (shape m v) bs n (d .st) writable holds (omega arith));
+    none = λ t a b f.
+        let e = ap (λ (c : Bool). cond c (follows F (m .tables) (shape m v) t) (avoids t (shape m v))) (sym f) ∙ at-table F (m .tables) (shape m v) (o .test) t a b in
+        holds .others t (apart t a) ∙ ap joined (free-rows t (shape m v) (holds .x) (avoids-free t (shape m v) e));
+  }
