@@ -5,9 +5,11 @@
  * of a message crates/gateway_api_versions/src, crates/gateway_metadata/src and crates/gateway_fetch/src. All of them are
  * linked from target/staticlib/libbefrolan.a, which tools/staticlib makes.
  *
- * Slices. A slice is two parameters: a pointer, and how many elements there are. An empty slice has the length 0
- * and still a pointer that is not null and is aligned for its element. What is lent to be written to must not
- * overlap anything else that is lent to the same call.
+ * Slices. A slice is two parameters: a pointer, and how many elements there are. Where the length is 0 the pointer may be
+ * null: nothing is read or written through it.
+ *
+ * Versions. A version is a number of 64 bits, and every one that the message does not have is BEFROLAN_NO_VERSION: those
+ * below 0, and those far above, whatever their low bits are.
  *
  * Cells. Numbers in tables and answers are cells: 64 bits, two's complement. They are declared as int64_t.
  *
@@ -17,6 +19,16 @@
  *
  * Texts and data are parts: a start and a length, counted in bytes from the front of the message that was read,
  * or of `lent`, the bytes beside what is written.
+ *
+ * What the caller owes. A call judges every number that it is given, and every byte and cell; it cannot judge these, and
+ * promises nothing where one of them is not so:
+ * - A slice whose length is not 0 has a pointer that is not null, to at least as many elements as the length says.
+ * - `body` and `rows`, which have no length beside them, point to as many cells as their declaration says.
+ * - A pointer to cells is aligned for them, as one to an int64_t is.
+ * - What is lent to be written to (its pointer is not to const) overlaps nothing else that is lent to the same call. What is
+ *   only read may overlap.
+ * - Until the call returns nobody else writes to what is lent, or reads what is lent to be written to: no other thread, and
+ *   no signal handler.
  */
 #ifndef BEFROLAN_H
 #define BEFROLAN_H
@@ -185,7 +197,7 @@ typedef struct {
  * none. Any other: a whole read, which refuses null items and bytes left over. */
 befrolan_response_numbers befrolan_read_api_versions_response(
     const uint8_t *msg, size_t msg_len,
-    int16_t version,
+    int64_t version,
     uint64_t whole,
     int64_t *items, size_t items_len,
     int64_t *tags, size_t tags_len);
@@ -193,14 +205,14 @@ befrolan_response_numbers befrolan_read_api_versions_response(
 /* Reads a request at the front of the message. */
 befrolan_request_numbers befrolan_read_api_versions_request(
     const uint8_t *msg, size_t msg_len,
-    int16_t version,
+    int64_t version,
     int64_t *tags, size_t tags_len);
 
 /* Writes a response. `body`: error, number of items, kind of the throttle time, throttle time, number of own tags.
  * What the version lacks is dropped. An unset throttle time is written as 0, unset tags as none. */
 befrolan_numbers befrolan_write_api_versions_response(
     uint8_t *out, size_t out_len,
-    int16_t version,
+    int64_t version,
     const uint8_t *lent, size_t lent_len,
     const int64_t body[5],
     const int64_t *items, size_t items_len,
@@ -210,7 +222,7 @@ befrolan_numbers befrolan_write_api_versions_response(
  * Unset texts are written as empty ones. */
 befrolan_numbers befrolan_write_api_versions_request(
     uint8_t *out, size_t out_len,
-    int16_t version,
+    int64_t version,
     const uint8_t *lent, size_t lent_len,
     const int64_t body[7],
     const int64_t *tags, size_t tags_len);
@@ -227,7 +239,7 @@ void befrolan_agree(const int64_t *items, size_t items_len, int64_t rows[9]);
  * small, `need` is the rows of the first of them, in the order of the parameters. */
 befrolan_metadata_numbers befrolan_read_metadata_response(
     const uint8_t *msg, size_t msg_len,
-    int16_t version,
+    int64_t version,
     int64_t *brokers, size_t brokers_len,
     int64_t *topics, size_t topics_len,
     int64_t *partitions, size_t partitions_len,
@@ -240,7 +252,7 @@ befrolan_metadata_numbers befrolan_read_metadata_response(
  * `lent`. */
 befrolan_numbers befrolan_write_metadata_request(
     uint8_t *out, size_t out_len,
-    int16_t version,
+    int64_t version,
     const uint8_t *lent, size_t lent_len,
     const int64_t body[3],
     const int64_t *topics, size_t topics_len);
@@ -249,7 +261,7 @@ befrolan_numbers befrolan_write_metadata_request(
  * What befrolan_read_metadata_response refuses is refused alike, but with no tables there is no BEFROLAN_NO_ROOM. */
 befrolan_host_numbers befrolan_find_host(
     const uint8_t *msg, size_t msg_len,
-    int16_t version,
+    int64_t version,
     int64_t node);
 
 /* ---- Fetch, versions 0 to 4 */
@@ -259,7 +271,7 @@ befrolan_host_numbers befrolan_find_host(
  * looked into. Where tables are too small, `need` is the rows of the first of them, in the order of the parameters. */
 befrolan_fetch_numbers befrolan_read_fetch_response(
     const uint8_t *msg, size_t msg_len,
-    int16_t version,
+    int64_t version,
     int64_t *topics, size_t topics_len,
     int64_t *partitions, size_t partitions_len,
     int64_t *aborted, size_t aborted_len);
@@ -270,7 +282,7 @@ befrolan_fetch_numbers befrolan_read_fetch_response(
  * first; names are parts of `lent`. */
 befrolan_numbers befrolan_write_fetch_request(
     uint8_t *out, size_t out_len,
-    int16_t version,
+    int64_t version,
     const uint8_t *lent, size_t lent_len,
     const int64_t body[8],
     const int64_t *topics, size_t topics_len,

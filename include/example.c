@@ -57,11 +57,11 @@ static int agreed(int64_t rows[9])
     if (memcmp(rows, spoken, sizeof spoken) != 0)
         return 0;
 
-    /* the own row, as it was read; no data are lent, so an empty slice with a pointer that is not null */
+    /* the own row, as it was read; no data are lent and there are no tags, so two empty slices, which need no pointer */
     int64_t body[5] = {r.error, r.items, r.throttle_kind, r.throttle, r.tags};
     uint8_t out[64];
-    befrolan_numbers w = befrolan_write_api_versions_response(out, sizeof out, 0, offer, 0, body, items,
-                                                              3 * BEFROLAN_ITEM_CELLS, tags, 0);
+    befrolan_numbers w = befrolan_write_api_versions_response(out, sizeof out, 0, NULL, 0, body, items,
+                                                              3 * BEFROLAN_ITEM_CELLS, NULL, 0);
     if (w.number != BEFROLAN_ACCEPTED || w.used != (int64_t)sizeof offer || memcmp(out, offer, sizeof offer) != 0)
         return 0;
     printf("written back: %lld bytes, the same\n", (long long)w.used);
@@ -69,7 +69,7 @@ static int agreed(int64_t rows[9])
 }
 
 /* asks for the topic "t"; auto-creation is unset */
-static int asked(int16_t version)
+static int asked(int64_t version)
 {
     static const uint8_t name[1] = {'t'}, request[7] = {0, 0, 0, 1, 0, 1, 't'};
     static const int64_t body[3] = {1, BEFROLAN_ABSENT, 0}, topics[BEFROLAN_NAME_CELLS] = {0, 1};
@@ -80,7 +80,7 @@ static int asked(int16_t version)
 }
 
 /* finds the host of the node that leads the first partition */
-static int found(int16_t version)
+static int found(int64_t version)
 {
     int64_t brokers[4 * BEFROLAN_BROKER_CELLS], topics[4 * BEFROLAN_TOPIC_CELLS];
     int64_t partitions[4 * BEFROLAN_PARTITION_CELLS], replicas[8], in_sync[8];
@@ -103,7 +103,7 @@ static int found(int16_t version)
 
 /* asks for partition 0 of the topic "t" from offset 7 on: as a client, within half a second, at least a byte; max bytes
  * and isolation level are unset */
-static int wanted(int16_t version)
+static int wanted(int64_t version)
 {
     static const uint8_t name[1] = {'t'};
     static const uint8_t request[44] = {
@@ -119,7 +119,7 @@ static int wanted(int16_t version)
 }
 
 /* shows the records of the first partition: they are a part of the message, and not copied */
-static int shown(int16_t version)
+static int shown(int64_t version)
 {
     int64_t topics[4 * BEFROLAN_FETCH_TOPIC_CELLS], partitions[4 * BEFROLAN_FETCH_PARTITION_CELLS];
     int64_t aborted[4 * BEFROLAN_ABORTED_CELLS];
@@ -143,6 +143,6 @@ int main(void)
     int64_t rows[9];
     if (!agreed(rows) || rows[4] != 1 || rows[7] != 4)
         return 1;
-    int16_t metadata = (int16_t)rows[4], fetch = (int16_t)rows[7];
+    int64_t metadata = rows[4], fetch = rows[7];
     return asked(metadata) && found(metadata) && wanted(fetch) && shown(fetch) ? 0 : 1;
 }

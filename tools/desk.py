@@ -339,7 +339,7 @@ def main(words):
     first = rest[: wanted[command]]
     if command == "read" and first[0] not in NAMES:
         raise Usage(f"there is no message {first[0]}")
-    version = whole_number(first[-1], -32768, 32767, "VERSION")
+    version = whole_number(first[-1], -(2**63), 2**63 - 1, "VERSION")
     node = whole_number(first[0], -(2**31), 2**31 - 1, "NODE") if command == "host" else 0
     body = body_of(rest[wanted[command]:], form)
     if command == "host":

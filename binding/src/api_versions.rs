@@ -144,10 +144,11 @@ pub struct Agreed {
 /// The refusal of the rules; never [`Refusal::NO_ROOM`], for the tables grow.
 pub fn read_api_versions_response<'a>(
     msg: &'a [u8],
-    version: i16,
+    version: impl Into<i64>,
     read: Read,
     tables: &'a mut ApiVersionsTables,
 ) -> Result<ApiVersionsResponse<'a>, Refusal> {
+    let version = version.into();
     let r = loop {
         let (items, items_len) = tables.items.lent();
         let (tags, tags_len) = tables.tags.lent();
@@ -227,7 +228,7 @@ impl ApiVersionsAnswer {
     ///
     /// # Errors
     /// 1 for a version that there is not, 2 where the body would be too long, 10 where `out` is too small.
-    pub fn write(&self, out: &mut [u8], version: i16) -> Result<usize, Refusal> {
+    pub fn write(&self, out: &mut [u8], version: impl Into<i64>) -> Result<usize, Refusal> {
         let (kind, throttle) = self.throttle_time_ms.map_or((0, 0), |n| (PRESENT, n.into()));
         let body: [Cell; 5] =
             [self.error.into(), self.items.len() as Cell / 4, kind, throttle, self.own.len() as Cell / 3];
@@ -237,7 +238,7 @@ impl ApiVersionsAnswer {
             raw::befrolan_write_api_versions_response(
                 out.as_mut_ptr(),
                 out.len(),
-                version,
+                version.into(),
                 self.data.as_ptr(),
                 self.data.len(),
                 body.as_ptr(),
@@ -255,7 +256,12 @@ impl ApiVersionsAnswer {
 ///
 /// # Errors
 /// 1 for a version that there is not, 10 where `out` is too small.
-pub fn write_api_versions_request(out: &mut [u8], version: i16, client: &str, software: &str) -> Result<usize, Refusal> {
+pub fn write_api_versions_request(
+    out: &mut [u8],
+    version: impl Into<i64>,
+    client: &str,
+    software: &str,
+) -> Result<usize, Refusal> {
     let lent = [client.as_bytes(), software.as_bytes()].concat();
     let (n, m) = (client.len() as Cell, software.len() as Cell);
     let body: [Cell; 7] = [PRESENT, 0, n, PRESENT, n, m, 0];
@@ -264,7 +270,7 @@ pub fn write_api_versions_request(out: &mut [u8], version: i16, client: &str, so
         raw::befrolan_write_api_versions_request(
             out.as_mut_ptr(),
             out.len(),
-            version,
+            version.into(),
             lent.as_ptr(),
             lent.len(),
             body.as_ptr(),
@@ -302,9 +308,10 @@ impl<'a> ApiVersionsRequest<'a> {
 /// The refusal of the rules; never [`Refusal::NO_ROOM`], for the tables grow.
 pub fn read_api_versions_request<'a>(
     msg: &'a [u8],
-    version: i16,
+    version: impl Into<i64>,
     tables: &'a mut ApiVersionsTables,
 ) -> Result<ApiVersionsRequest<'a>, Refusal> {
+    let version = version.into();
     let r = loop {
         let (tags, tags_len) = tables.tags.lent();
         // SAFETY: slices with their lengths; pointers of empty ones are not null.

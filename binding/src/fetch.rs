@@ -146,9 +146,10 @@ impl<'a> FetchResponse<'a> {
 /// The refusal of the rules; never [`Refusal::NO_ROOM`], for the tables grow.
 pub fn read_fetch_response<'a>(
     msg: &'a [u8],
-    version: i16,
+    version: impl Into<i64>,
     tables: &'a mut FetchTables,
 ) -> Result<FetchResponse<'a>, Refusal> {
+    let version = version.into();
     let r = loop {
         let t = &mut *tables;
         let (s, sn) = t.topics.lent();
@@ -251,7 +252,7 @@ impl FetchRequest {
     ///
     /// # Errors
     /// The refusal of the rules; [`Refusal::NO_ROOM`] with the bytes needed where `out` is too small.
-    pub fn write(&self, out: &mut [u8], version: i16) -> Result<usize, Refusal> {
+    pub fn write(&self, out: &mut [u8], version: impl Into<i64>) -> Result<usize, Refusal> {
         let unset = |x: Option<Cell>| x.map_or((0, 0), |n| (PRESENT, n));
         let (max_kind, max) = unset(self.max_bytes.map(Cell::from));
         let (level_kind, level) = unset(self.isolation_level.map(Cell::from));
@@ -271,7 +272,7 @@ impl FetchRequest {
             raw::befrolan_write_fetch_request(
                 out.as_mut_ptr(),
                 out.len(),
-                version,
+                version.into(),
                 self.names.as_ptr(),
                 self.names.len(),
                 body.as_ptr(),

@@ -7,6 +7,23 @@
 //! Nothing is copied on reading: rows go to tables that the caller keeps and lends, which grow where a message needs more,
 //! and texts, data and records are borrowed from the message.
 //!
+//! A version is any integer that an `i64` holds: an `i16`, as [`ApiVersionsResponse::agree`] gives it, or a wider one, which
+//! is handed on as it is. No cast can make a version of it that was not meant: what the message does not have is refused
+//! with 1 ([`Refusal::NO_VERSION`]).
+//!
+//! # What the C interface asks of its caller
+//!
+//! The header lists what a call cannot judge. Safe Rust makes each of these mistakes impossible, and no function here is
+//! `unsafe`:
+//!
+//! - A null pointer with a length, a wrong length, a table shorter than its length says, a pointer that is not aligned: every
+//!   pointer and its length come from one slice, `Vec` or array, whose pointer is never null and always aligned, and whose
+//!   length is the number of its elements. The runs without a length (`body`, `rows`) are arrays of just their size.
+//! - What is written overlapping what is read, or another table: an output or table is a `&mut`, and while it is lent nothing
+//!   else can refer to any part of it.
+//! - Memory that is freed, or written by another thread, during a call: all slices are borrowed until it returns, and a
+//!   borrow rules out both. What a call shows stays borrowed from the message and the tables for as long as it is used.
+//!
 //! ```
 //! use befrolan::{read_api_versions_response, ApiVersionsTables, FetchRequest, Read, WantedPartition};
 //! # fn main() -> Result<(), befrolan::Refusal> {

@@ -220,9 +220,10 @@ fn sum(rows: impl Iterator<Item = Cell>) -> usize {
 /// The refusal of the rules; never [`Refusal::NO_ROOM`], for the tables grow.
 pub fn read_metadata_response<'a>(
     msg: &'a [u8],
-    version: i16,
+    version: impl Into<i64>,
     tables: &'a mut MetadataTables,
 ) -> Result<MetadataResponse<'a>, Refusal> {
+    let version = version.into();
     let r = loop {
         let t = &mut *tables;
         let (b, bn) = t.brokers.lent();
@@ -283,9 +284,9 @@ impl MetadataTables {
 ///
 /// # Errors
 /// What [`read_metadata_response`] refuses.
-pub fn find_host(msg: &[u8], version: i16, node: i32) -> Result<Option<&str>, Refusal> {
+pub fn find_host(msg: &[u8], version: impl Into<i64>, node: i32) -> Result<Option<&str>, Refusal> {
     // SAFETY: a slice with its length.
-    let r = unsafe { raw::befrolan_find_host(msg.as_ptr(), msg.len(), version, Cell::from(node)) };
+    let r = unsafe { raw::befrolan_find_host(msg.as_ptr(), msg.len(), version.into(), Cell::from(node)) };
     if r.number != 0 {
         return Err(Refusal::of(r.number, r.place, r.need));
     }
@@ -299,7 +300,7 @@ pub fn find_host(msg: &[u8], version: i16, node: i32) -> Result<Option<&str>, Re
 /// The refusal of the rules; [`Refusal::NO_ROOM`] with the bytes needed where `out` is too small.
 pub fn write_metadata_request(
     out: &mut [u8],
-    version: i16,
+    version: impl Into<i64>,
     topics: Option<&[&str]>,
     allow_auto_topic_creation: Option<bool>,
 ) -> Result<usize, Refusal> {
@@ -319,7 +320,7 @@ pub fn write_metadata_request(
         raw::befrolan_write_metadata_request(
             out.as_mut_ptr(),
             out.len(),
-            version,
+            version.into(),
             lent.as_ptr(),
             lent.len(),
             body.as_ptr(),

@@ -1,4 +1,5 @@
-//! The entry points of include/befrolan.h, as they are. A slice is a pointer, never null, and a number of elements.
+//! The entry points of include/befrolan.h, as they are. A slice is a pointer and a number of elements; what a caller owes is
+//! listed there, and the calls of this crate's other files see to it.
 
 #[repr(C)]
 #[derive(Clone, Copy, Debug)]
@@ -84,7 +85,7 @@ extern "C" {
     pub fn befrolan_read_api_versions_response(
         msg: *const u8,
         msg_len: usize,
-        version: i16,
+        version: i64,
         whole: u64,
         items: *mut i64,
         items_len: usize,
@@ -94,14 +95,14 @@ extern "C" {
     pub fn befrolan_read_api_versions_request(
         msg: *const u8,
         msg_len: usize,
-        version: i16,
+        version: i64,
         tags: *mut i64,
         tags_len: usize,
     ) -> RequestNumbers;
     pub fn befrolan_write_api_versions_response(
         out: *mut u8,
         out_len: usize,
-        version: i16,
+        version: i64,
         lent: *const u8,
         lent_len: usize,
         body: *const i64,
@@ -113,7 +114,7 @@ extern "C" {
     pub fn befrolan_write_api_versions_request(
         out: *mut u8,
         out_len: usize,
-        version: i16,
+        version: i64,
         lent: *const u8,
         lent_len: usize,
         body: *const i64,
@@ -124,7 +125,7 @@ extern "C" {
     pub fn befrolan_read_metadata_response(
         msg: *const u8,
         msg_len: usize,
-        version: i16,
+        version: i64,
         brokers: *mut i64,
         brokers_len: usize,
         topics: *mut i64,
@@ -139,18 +140,18 @@ extern "C" {
     pub fn befrolan_write_metadata_request(
         out: *mut u8,
         out_len: usize,
-        version: i16,
+        version: i64,
         lent: *const u8,
         lent_len: usize,
         body: *const i64,
         topics: *const i64,
         topics_len: usize,
     ) -> Numbers;
-    pub fn befrolan_find_host(msg: *const u8, msg_len: usize, version: i16, node: i64) -> HostNumbers;
+    pub fn befrolan_find_host(msg: *const u8, msg_len: usize, version: i64, node: i64) -> HostNumbers;
     pub fn befrolan_read_fetch_response(
         msg: *const u8,
         msg_len: usize,
-        version: i16,
+        version: i64,
         topics: *mut i64,
         topics_len: usize,
         partitions: *mut i64,
@@ -161,7 +162,7 @@ extern "C" {
     pub fn befrolan_write_fetch_request(
         out: *mut u8,
         out_len: usize,
-        version: i16,
+        version: i64,
         lent: *const u8,
         lent_len: usize,
         body: *const i64,

@@ -21,7 +21,7 @@ impl<const WIDTH: usize> Table<WIDTH> {
         self.cells.len() / WIDTH
     }
 
-    /// A pointer that is not null, whatever the length.
+    /// Its cells, with as many as there are.
     pub(crate) fn lent(&mut self) -> (*mut Cell, usize) {
         (self.cells.as_mut_ptr(), self.cells.len())
     }

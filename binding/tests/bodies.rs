@@ -33,6 +33,45 @@ fn an_answer_is_read_at_its_own_version_alone() {
 }
 
 #[test]
+fn a_version_that_there_is_not_is_refused_whatever_its_low_bits_are() {
+    let offer = hex("0000 00000001 0012 0000 0003");
+    let metadata = hex("00000000 00000000");
+    let fetch = hex("00000000");
+    let mut out = [0xa5; 64];
+    for version in [65_536, 65_539, -1, -65_536, 1 << 32, i64::MIN, i64::MAX] {
+        let no = Refusal { number: Refusal::NO_VERSION, place: 0, need: 0 };
+        for read in [Read::Prefix, Read::Whole] {
+            let mut tables = ApiVersionsTables::default();
+            assert_eq!(read_api_versions_response(&offer, version, read, &mut tables).unwrap_err(), no);
+        }
+        assert_eq!(read_api_versions_request(&[], version, &mut ApiVersionsTables::default()).unwrap_err(), no);
+        assert_eq!(read_metadata_response(&metadata, version, &mut MetadataTables::default()).unwrap_err(), no);
+        assert_eq!(find_host(&metadata, version, 1), Err(no));
+        assert_eq!(read_fetch_response(&fetch, version, &mut FetchTables::default()).unwrap_err(), no);
+        assert_eq!(ApiVersionsAnswer::new(0).write(&mut out, version), Err(no));
+        assert_eq!(write_api_versions_request(&mut out, version, "gw", "1"), Err(no));
+        assert_eq!(write_metadata_request(&mut out, version, None, None), Err(no));
+        assert_eq!(FetchRequest::new(500, 1).write(&mut out, version), Err(no));
+        assert_eq!(out, [0xa5; 64]);
+    }
+    // any integer that fits is a version, with no cast
+    let mut tables = ApiVersionsTables::default();
+    assert!(read_api_versions_response(&offer, 0_u8, Read::Whole, &mut tables).is_ok());
+    assert!(read_api_versions_response(&offer, 0_i16, Read::Whole, &mut tables).is_ok());
+    assert_eq!(find_host(&metadata, 65_536_u32, 1).unwrap_err().number, Refusal::NO_VERSION);
+}
+
+#[test]
+fn empty_slices_are_lent_like_any_others() {
+    assert_eq!(find_host(&[], 0, 1).unwrap_err().number, Refusal::BYTES_END);
+    let e = write_api_versions_request(&mut [], 3, "", "").unwrap_err();
+    assert_eq!((e.number, e.need), (Refusal::NO_ROOM, 3));
+    assert_eq!(write_api_versions_request(&mut [], 0, "", ""), Ok(0));
+    let e = FetchRequest::new(500, 1).write(&mut [], 4).unwrap_err();
+    assert_eq!((e.number, e.need), (Refusal::NO_ROOM, 21));
+}
+
+#[test]
 fn tables_grow_to_what_a_message_needs() {
     let mut body = hex("0000 000003e8");
     for key in 0..1000u16 {

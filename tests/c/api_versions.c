@@ -9,7 +9,7 @@ static const uint8_t E12[] = {0, 0, 0, 0, 0, 0, 0, 1, 5, 0};
 /* an item (3, 0 to 4) with a tag 7 of two bytes, throttle 9, an own tag 1 of none */
 static const uint8_t TAGGED[] = {0, 0, 2, 0, 3, 0, 0, 0, 4, 1, 7, 2, 0xaa, 0xbb, 0, 0, 0, 9, 1, 1, 0};
 
-static befrolan_response_numbers response(const uint8_t *m, size_t n, int16_t v, uint64_t whole, size_t items, size_t tags)
+static befrolan_response_numbers response(const uint8_t *m, size_t n, int64_t v, uint64_t whole, size_t items, size_t tags)
 {
     return befrolan_read_api_versions_response(m, n, v, whole, table(first), items, table(second), tags);
 }
@@ -35,7 +35,7 @@ static void responses_read(void)
         CHECK(no_response(response(E9, 12, -1, w, 16, 12), 1, 0, 0));
         CHECK(no_response(response(E9, 12, 0, w, 3, 12), 10, 0, 1));
         CHECK(body(response(E9, 12, 0, w, 4, 0), 12, 0, 1, 0, 0, -1));
-        for (int16_t v = 0; v < 4; v++)
+        for (int64_t v = 0; v < 4; v++)
             CHECK(no_response(response(none, 0, v, w, 16, 12), 3, 0, 0));
     }
     CHECK(no_response(response(E9, 12, 3, 1, 16, 12), 8, 2, 0));
@@ -67,7 +67,7 @@ static void responses_read(void)
 
 /* ---- ApiVersions requests, read */
 
-static befrolan_request_numbers request(const uint8_t *m, size_t n, int16_t v, size_t tags)
+static befrolan_request_numbers request(const uint8_t *m, size_t n, int64_t v, size_t tags)
 {
     return befrolan_read_api_versions_request(m, n, v, table(second), tags);
 }
@@ -86,7 +86,7 @@ static int no_request(befrolan_request_numbers r, int64_t number, int64_t place,
 static void requests_read(void)
 {
     static const uint8_t m[] = {3, 'a', 'b', 4, '1', '.', '0', 1, 0x80, 1, 1, 0xff};
-    for (int16_t v = 0; v < 3; v++) {
+    for (int64_t v = 0; v < 3; v++) {
         CHECK(texts(request(none, 0, v, 12), 0, 0, 0, 0, 0, 0, -1));
         CHECK(texts(request(m, 12, v, 0), 0, 0, 0, 0, 0, 0, -1));
     }
@@ -107,7 +107,7 @@ static void requests_read(void)
 
 /* ---- ApiVersions responses, written */
 
-static befrolan_numbers put_response(size_t room, int16_t v, const uint8_t *lent, size_t size, const int64_t *row, const int64_t *items, size_t cells,
+static befrolan_numbers put_response(size_t room, int64_t v, const uint8_t *lent, size_t size, const int64_t *row, const int64_t *items, size_t cells,
                                      const int64_t *tags, size_t tag_cells)
 {
     return befrolan_write_api_versions_response(out(), room, v, lent, size, row, items, cells, tags, tag_cells);
@@ -145,7 +145,7 @@ static void responses_written(void)
 
 /* ---- ApiVersions requests, written */
 
-static befrolan_numbers put_request(size_t room, int16_t v, const uint8_t *lent, size_t size, const int64_t *row, const int64_t *tags, size_t cells)
+static befrolan_numbers put_request(size_t room, int64_t v, const uint8_t *lent, size_t size, const int64_t *row, const int64_t *tags, size_t cells)
 {
     return befrolan_write_api_versions_request(out(), room, v, lent, size, row, tags, cells);
 }
@@ -158,7 +158,7 @@ static void requests_written(void)
     CHECK(USED(put_request(12, 3, lent, 6, row, tag, 3), 12) && wrote(m, 12));
     CHECK(USED(put_request(12, 3, lent, 6, C(1, 0, 2, -1, 2, 3, 1), tag, 3), 12) && wrote(m, 12));
     CHECK(not_written(put_request(11, 3, lent, 6, row, tag, 3), 10, 12));
-    for (int16_t v = 0; v < 3; v++)
+    for (int64_t v = 0; v < 3; v++)
         CHECK(USED(put_request(0, v, lent, 6, row, tag, 3), 0) && wrote(none, 0));
     CHECK(USED(put_request(64, 3, lent, 6, C(0, 9, 9, 0, 9, 9, -1), no_cells, 0), 3) && wrote(B(1, 1, 0), 3));
     CHECK(not_written(put_request(64, 3, lent, 6, C(2, 4, 3, 0, 0, 0, -1), no_cells, 0), 13, 0));

@@ -36,6 +36,7 @@ int main(void)
     subject("Fetch responses", fetch_responses);
     subject("Fetch requests", fetch_requests);
     subject("primitives and tagged fields", primitives);
+    subject("versions outside all, and null slices", boundary);
     printf("%d checks, %d failed\n", checks, failed);
     return failed != 0;
 }

@@ -3,7 +3,7 @@
 
 /* what is lent for a request */
 typedef struct {
-    int16_t version;
+    int64_t version;
     const uint8_t *lent;
     size_t size;
     const int64_t *row, *topics;
@@ -47,7 +47,7 @@ static const uint8_t lent[19] = {'a', 'b', 'c', 0xc3, 0xa9, 0xf4, 0x8f, 0xbf, 0x
 
 /* at each version, what it lacks left out: max bytes and isolation level as given, and the bytes from the topics' count on */
 #define EACH(row, t, tn, p, pn, max, level, ...) \
-    for (int16_t v = 0; v < 3; v++) \
+    for (int64_t v = 0; v < 3; v++) \
         ASKS(v, row, t, tn, p, pn, HEAD, __VA_ARGS__); \
     ASKS(3, row, t, tn, p, pn, HEAD, max, __VA_ARGS__); \
     ASKS(4, row, t, tn, p, pn, HEAD, max, level, __VA_ARGS__)
@@ -101,7 +101,7 @@ static const int64_t levels[7] = {2, -1, 256, 257, INT64_C(4294967297), INT64_MI
 
 static void numbers_refused(void)
 {
-    for (int16_t v = 0; v < 5; v++)
+    for (int64_t v = 0; v < 5; v++)
         for (int i = 0; i < 5; i++) {
             DENIES(v, 11, C(too_wide[i], 500, 1, 0, 0, 0, 0, 0), no_cells, 0, no_cells, 0);
             DENIES(v, 11, C(-1, too_wide[i], 1, 0, 0, 0, 0, 0), no_cells, 0, no_cells, 0);
@@ -119,7 +119,7 @@ static void numbers_refused(void)
     /* max bytes from 3 on; dropped below */
     for (int i = 0; i < 5; i++) {
         const int64_t *row = C(-1, 500, 1, 2, too_wide[i], 0, 0, 0);
-        for (int16_t v = 0; v < 3; v++)
+        for (int64_t v = 0; v < 3; v++)
             ASKS(v, row, no_cells, 0, no_cells, 0, HEAD, COUNT(0));
         DENIES(3, 11, row, no_cells, 0, no_cells, 0);
         DENIES(4, 11, row, no_cells, 0, no_cells, 0);
@@ -127,7 +127,7 @@ static void numbers_refused(void)
     /* the isolation level at 4; dropped below */
     for (int i = 0; i < 7; i++) {
         const int64_t *row = C(-1, 500, 1, 0, 0, 2, levels[i], 0);
-        for (int16_t v = 0; v < 3; v++)
+        for (int64_t v = 0; v < 3; v++)
             ASKS(v, row, no_cells, 0, no_cells, 0, HEAD, COUNT(0));
         ASKS(3, row, no_cells, 0, no_cells, 0, HEAD, MOST32, COUNT(0));
         DENIES(4, 11, row, no_cells, 0, no_cells, 0);
@@ -140,7 +140,7 @@ static void tables_refused(void)
     static const int64_t counts[8] = {0, 1, 3, -1, -2, INT64_MIN, INT64_MAX, INT64_C(4294967298)};
     static const int64_t sums[10][2] = {{2, 2}, {2, 0}, {1, 1}, {0, 0}, {3, -1}, {4, -1}, {-2, 5}, {5, -2}, {INT64_MIN, 3}, {INT64_C(4294967298), 1}};
     static const int64_t outside[10][2] = {{18, 2}, {19, 1}, {20, 0}, {0, 20}, {0, -1}, {-1, 1}, {-1, 2}, {INT64_MAX, INT64_MAX}, {1, INT64_MAX}, {INT64_MIN, 0}};
-    for (int16_t v = 0; v < 5; v++) {
+    for (int64_t v = 0; v < 5; v++) {
         /* the topics' count: other than the two rows there are, null, below null */
         for (int i = 0; i < 8; i++)
             DENIES(v, 13, UNSET(counts[i]), both, 6, three, 9);
@@ -169,7 +169,7 @@ static void tables_refused(void)
         DENIES(v, 13, UNSET(2), C(10, 2, 1, 0, 1, 1), 6, C(too_wide[0], 0, too_wide[0]), 3);
     }
     /* the version comes before the tables */
-    static const int16_t others[4] = {-1, 5, -32768, 32767};
+    static const int64_t others[4] = {-1, 5, -32768, 32767};
     for (int i = 0; i < 4; i++) {
         DENIES(others[i], 1, UNSET(2), both, 6, three, 9);
         DENIES(others[i], 1, UNSET(0), no_cells, 0, no_cells, 0);
@@ -182,7 +182,7 @@ static void order_of_fields(void)
 {
     static const int64_t ill[8][2] = {{10, 2}, {10, 1}, {12, 3}, {15, 4}, {3, 1}, {4, 1}, {5, 3}, {0, 4}};
     const int64_t *wide_first = C(too_wide[0], 0, 0), *wide_last = C(0, 0, 0, 0, 0, too_wide[1]);
-    for (int16_t v = 0; v < 5; v++) {
+    for (int64_t v = 0; v < 5; v++) {
         /* names that are no text, of the first topic and of the second */
         for (int i = 0; i < 8; i++) {
             DENIES(v, 7, UNSET(2), C(ill[i][0], ill[i][1], 2, 1, 2, 1), 6, three, 9);
@@ -266,7 +266,7 @@ static void hundred_partitions(void)
         memcpy(topics + 3 * i, C(i % 3, i % 4, counts[i]), 3 * sizeof(int64_t));
     for (int i = 0; i < 100; i++)
         memcpy(partitions + 3 * i, C(i, INT64_C(12345678901) * i, 1048576 - i), 3 * sizeof(int64_t));
-    for (int16_t v = 0; v < 5; v++) {
+    for (int64_t v = 0; v < 5; v++) {
         asked q = {v, B('a', 'b', 'c', 'd', 'e', 0xff), 6, UNSET(10), topics, 30, partitions, 300};
         /* 16 in front, 6 and a name for each topic, 16 for each partition */
         asks_laid(__LINE__, q, 1689 + extra[v]);
@@ -296,7 +296,7 @@ static void longest(void)
     static int64_t names[96], partitions[3 * 65534];
     for (int i = 0; i < 32; i++)
         names[3 * i + 1] = 32767;
-    for (int16_t v = 0; v < 5; v++) {
+    for (int64_t v = 0; v < 5; v++) {
         /* the longest name: 16 in front, 6 and the name */
         asks_laid(__LINE__, (asked){v, large, 32767, UNSET(1), C(0, 32767, 0), 3, no_cells, 0}, 32789 + extra[v]);
 

@@ -56,7 +56,7 @@ static const size_t ample[3] = {CELLS, CELLS, CELLS}, no_room[3] = {0, 0, 0};
 
 static int64_t tables[3][GUARD + CELLS + GUARD];
 
-static befrolan_fetch_numbers answer(const uint8_t *m, size_t n, int16_t v, const size_t *room)
+static befrolan_fetch_numbers answer(const uint8_t *m, size_t n, int64_t v, const size_t *room)
 {
     return befrolan_read_fetch_response(m, n, v, table(tables[0]), room[0], table(tables[1]), room[1], table(tables[2]), room[2]);
 }
@@ -77,7 +77,7 @@ static int unfilled(void)
 }
 
 /* the body of version v, with rows in all the tables that the version has */
-static int whole(befrolan_fetch_numbers r, int v)
+static int whole(befrolan_fetch_numbers r, int64_t v)
 {
     const int64_t *row = bodies[v].own;
     return own(r, (int64_t)bodies[v].size, row[0], row[1], row[2]) && filled(bodies[v].topics, 6, bodies[v].partitions, 21, bodies[v].aborted, v < 4 ? 0 : 6);
@@ -99,7 +99,7 @@ static int no_answer(befrolan_fetch_numbers r, int64_t number, int64_t place, in
     CHECK(no_answer(answer(B(__VA_ARGS__), LEN(__VA_ARGS__), v, no_room), number, place, 0))
 
 /* each table by itself too small: by a row, by a cell, and together with those behind it */
-static void short_of_room(int16_t v, const size_t *exact)
+static void short_of_room(int64_t v, const size_t *exact)
 {
     const uint8_t *m = bodies[v].bytes;
     size_t n = bodies[v].size;
@@ -129,7 +129,7 @@ static void short_of_room(int16_t v, const size_t *exact)
 
 static void bodies_read(void)
 {
-    for (int16_t v = 0; v < 5; v++) {
+    for (int64_t v = 0; v < 5; v++) {
         const uint8_t *m = bodies[v].bytes, *starts = bodies[v].starts;
         size_t n = bodies[v].size, exact[3];
         for (int t = 0; t < 3; t++)
@@ -155,7 +155,7 @@ static void bodies_read(void)
         /* nothing but zeros: no topics */
         CHECK(own(answer(large, BEFROLAN_MOST, v, no_room), v == 0 ? 4 : 8, v == 0 ? 0 : 2, 0, 0) && unfilled());
     }
-    static const int16_t others[4] = {-1, 5, -32768, 32767};
+    static const int64_t others[4] = {-1, 5, -32768, 32767};
     for (int i = 0; i < 4; i++) {
         CHECK(no_answer(answer(F0, 76, others[i], ample), 1, 0, 0));
         CHECK(no_answer(answer(F4, 164, others[i], ample), 1, 0, 0));
@@ -225,7 +225,7 @@ static void answers_refused(void)
     /* counts: of topics, partitions, aborted transactions */
     BAD(0, 4, 0, BELOW);
     BAD(0, 4, 0, LEAST32);
-    for (int16_t v = 1; v < 5; v++) {
+    for (int64_t v = 1; v < 5; v++) {
         BAD(v, 4, 4, COUNT(0), BELOW);
         BAD(v, 4, 10, NONE, COUNT(1), 0, 0, BELOW);
         BAD(v, 4, 10, NONE, COUNT(1), 0, 0, LEAST32);
@@ -277,7 +277,7 @@ static void answers_refused(void)
     BAD(0, 4, 10, MOST32, 0, 0, COUNT(0), 0xff, 0xff);
     /* a body of another version: what stands where the length of records should is more than what is left; read at 4, that
      * of 1 seems to have 256 aborted transactions; read at 0, the throttle time -1 of 4 is a null count */
-    for (int16_t v = 1; v < 4; v++) {
+    for (int64_t v = 1; v < 4; v++) {
         CHECK(no_answer(answer(F0, 76, v, ample), 3, 28, 0));
         CHECK(no_answer(answer(F4, 164, v, ample), 3, 47, 0));
     }

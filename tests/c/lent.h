@@ -26,6 +26,7 @@ void metadata_and_hosts(void);
 void fetch_responses(void);
 void fetch_requests(void);
 void primitives(void);
+void boundary(void);
 
 /* ---- what is lent to be written to */
 

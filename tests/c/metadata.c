@@ -53,7 +53,7 @@ static const size_t ample[5] = {CELLS, CELLS, CELLS, CELLS, CELLS}, no_room[5] =
 
 static int64_t tables[5][GUARD + CELLS + GUARD];
 
-static befrolan_metadata_numbers metadata(const uint8_t *m, size_t n, int16_t v, const size_t *room)
+static befrolan_metadata_numbers metadata(const uint8_t *m, size_t n, int64_t v, const size_t *room)
 {
     return befrolan_read_metadata_response(m, n, v, table(tables[0]), room[0], table(tables[1]), room[1], table(tables[2]), room[2],
                                            table(tables[3]), room[3], table(tables[4]), room[4]);
@@ -76,7 +76,7 @@ static int unfilled(void)
 }
 
 /* the body of version v, with rows in all five tables */
-static int whole(befrolan_metadata_numbers r, int v)
+static int whole(befrolan_metadata_numbers r, int64_t v)
 {
     return own(r, (int64_t)bodies[v].size, bodies[v].own) && filled(bodies[v].brokers, 14, bodies[v].topics, 10, partitions, 15, replicas, 4, in_sync, 1);
 }
@@ -89,13 +89,13 @@ static int no_metadata(befrolan_metadata_numbers r, int64_t number, int64_t plac
 
 /* ---- hosts */
 
-static int host(const uint8_t *m, size_t n, int16_t v, int64_t node, int64_t start, int64_t length)
+static int host(const uint8_t *m, size_t n, int64_t v, int64_t node, int64_t start, int64_t length)
 {
     befrolan_host_numbers r = befrolan_find_host(m, n, v, node);
     return r.number == 0 && r.place == 0 && r.need == 0 && r.found == 1 && r.start == start && r.length == length;
 }
 
-static int no_host(const uint8_t *m, size_t n, int16_t v, int64_t node, int64_t number, int64_t place)
+static int no_host(const uint8_t *m, size_t n, int64_t v, int64_t node, int64_t number, int64_t place)
 {
     befrolan_host_numbers r = befrolan_find_host(m, n, v, node);
     return r.number == number && r.place == place && r.need == 0 && r.found == 0 && r.start == 0 && r.length == 0;
@@ -109,7 +109,7 @@ static int no_host(const uint8_t *m, size_t n, int16_t v, int64_t node, int64_t 
 
 static void metadata_read(void)
 {
-    for (int16_t v = 0; v < 5; v++) {
+    for (int64_t v = 0; v < 5; v++) {
         const uint8_t *m = bodies[v].bytes;
         size_t n = bodies[v].size, exact[5];
         for (int t = 0; t < 5; t++)
@@ -143,7 +143,7 @@ static void metadata_read(void)
         CHECK(no_metadata(metadata(none, 0, v, ample), 3, 0, 0));
         CHECK(no_metadata(metadata(large, BEFROLAN_MOST + 1, v, ample), 2, 0, 0));
     }
-    static const int16_t others[4] = {-1, 5, -32768, 32767};
+    static const int64_t others[4] = {-1, 5, -32768, 32767};
     for (int i = 0; i < 4; i++) {
         CHECK(no_metadata(metadata(M0, 124, others[i], ample), 1, 0, 0));
         CHECK(no_metadata(metadata(large, BEFROLAN_MOST + 1, others[i], no_room), 1, 0, 0));
@@ -176,7 +176,7 @@ static const uint8_t starts4[] = {0, 4, 8, 12, 16, 20, 22, 26, 29, 33, 36, 38, 4
                                   104, 106, 110, 111, 115, 117, 121, 125, 129, 133, 137, 141};
 
 /* a body cut anywhere: 3 at the primitive that is not all there, for the reader and for the lookup of a broker at the front */
-static void cut(const uint8_t *m, int16_t v, const uint8_t *starts, size_t n)
+static void cut(const uint8_t *m, int64_t v, const uint8_t *starts, size_t n)
 {
     for (size_t i = 0; i + 1 < n; i++)
         for (size_t k = starts[i]; k < starts[i + 1]; k++) {
@@ -221,7 +221,7 @@ static void metadata_refused(void)
 
 static void hosts(void)
 {
-    for (int16_t v = 0; v < 5; v++) {
+    for (int64_t v = 0; v < 5; v++) {
         const uint8_t *m = bodies[v].bytes;
         size_t n = bodies[v].size;
         CHECK(host(m, n, v, 1, bodies[v].brokers[1], 2));
@@ -267,13 +267,13 @@ static void hosts(void)
 
 /* ---- Metadata requests, written */
 
-static befrolan_numbers put_metadata(size_t room, int16_t v, const uint8_t *lent, size_t size, const int64_t *row, const int64_t *topics, size_t cells)
+static befrolan_numbers put_metadata(size_t room, int64_t v, const uint8_t *lent, size_t size, const int64_t *row, const int64_t *topics, size_t cells)
 {
     return befrolan_write_metadata_request(out(), room, v, lent, size, row, topics, cells);
 }
 
 /* `n` bytes at the front of the output: in more room, in just enough, and refused in a byte less */
-static void asks(int line, int16_t v, const uint8_t *lent, size_t size, const int64_t *row, const int64_t *topics, size_t cells, const uint8_t *bytes, size_t n)
+static void asks(int line, int64_t v, const uint8_t *lent, size_t size, const int64_t *row, const int64_t *topics, size_t cells, const uint8_t *bytes, size_t n)
 {
     check(__FILE__, line, "in more room", USED(put_metadata(64, v, lent, size, row, topics, cells), (int64_t)n) && wrote(bytes, n));
     check(__FILE__, line, "in just enough", USED(put_metadata(n, v, lent, size, row, topics, cells), (int64_t)n) && wrote(bytes, n));
@@ -285,7 +285,7 @@ static void metadata_written(void)
 {
     static const uint8_t lent[] = {'a', 'b', 'c'};
     static const int64_t names[] = {0, 1, 1, 2};
-    for (int16_t v = 0; v < 4; v++) {
+    for (int64_t v = 0; v < 4; v++) {
         /* null, none, and two names; auto-creation is dropped */
         ASKS(v, C(-1, 0, 0), no_cells, 0, NONE);
         ASKS(v, C(0, 2, 0), no_cells, 0, COUNT(0));
@@ -309,7 +309,7 @@ static void metadata_written(void)
     ASKS(1, C(1, 0, 0), C(3, 0, 9), 3, COUNT(1), 0, 0);
     ASKS(1, C(-1, 0, 0), C(9), 1, NONE);
 
-    for (int16_t v = 0; v < 5; v++) {
+    for (int64_t v = 0; v < 5; v++) {
         /* counts other than the rows, null with rows, below null */
         CHECK(not_written(put_metadata(64, v, lent, 3, C(1, 0, 0), names, 4), 13, 0));
         CHECK(not_written(put_metadata(64, v, lent, 3, C(3, 0, 0), names, 4), 13, 0));

@@ -129,11 +129,20 @@ def forms():
 
 
 def usage():
-    for words in ([], ["read"], ["read", "fetch"], ["read", "produce", "1"], ["read", "fetch", "x"], ["read", "fetch", "40000"], ["whole"],
+    for words in ([], ["read"], ["read", "fetch"], ["read", "produce", "1"], ["read", "fetch", "x"], ["read", "fetch", "9223372036854775808"], ["whole"],
                   ["whole", "1", "no-such-file"], ["host", "1"], ["host", "3000000000", "1"], ["night", "1"], ["agree", "1", "--yaml"],
                   ["whole", "1", "--raw", "--hex"], ["wholes", "1"]):
         out, err, code = asked(words)
         check(f"usage of {words}", (out, "usage: ./befrolan" in err, code), ("", True, 2))
+
+
+def versions():
+    """A version that no message has is asked for and refused, however far it is outside."""
+    for version in ("40000", "65536", "-65536", str(2**63 - 1), str(-(2**63))):
+        for words in (["read", "api-versions"], ["whole"], ["agree"], ["read", "api-versions-request"], ["read", "metadata"], ["host", "1"], ["read", "fetch"]):
+            out, _, code = asked([*words, version, "--json"], bytes(8))
+            check(f"{words} at {version}", (json.loads(out)["refusal"], code),
+                  ({"number": 1, "means": "the message has no such version", "place": 0, "need": 0}, 1))
 
 
 def night():
@@ -141,7 +150,7 @@ def night():
     check("night", (out, code), ((ROOT / "crates/feared_night/stdout").read_text(), 0))
 
 
-for part in (stored, made, sizes, forms, usage, night):
+for part in (stored, made, sizes, forms, usage, versions, night):
     part()
 print(f"desk: {tried} checks, {len(wrong)} wrong")
 sys.exit(1 if wrong else 0)

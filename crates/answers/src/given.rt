@@ -8,21 +8,11 @@ use lines_read::count;
 use lines_read::find;
 use lines_written::lent;
 use lines_written::sink::Sink;
+use primitives::read::signed;
 
 // The place of the word that has the letter; behind the last one where none has it.
 fn place(letters: &[u8], letter: u8) -> usize {
     find(letters, 0, letter) + 1
-}
-
-// The version that a cell is.
-fn version(c: u64) -> i16 {
-    if c < 32768 {
-        return c as i16;
-    }
-    if 18446744073709551615 - c < 32768 {
-        return !((18446744073709551615 - c) as i16);
-    }
-    0
 }
 
 // ---- cells
@@ -44,7 +34,7 @@ fn stored_cells(
     let room = cells(line, last, count(line, last, false) as usize, tags);
     let asked = Call {
         number: call,
-        version: version(at(given, 2)),
+        version: signed(at(given, 2)),
     };
     ask_writes::told(asked, given, data, &items[..rows], &tags[..room])
 }
@@ -78,16 +68,16 @@ fn with_cells(call: u64, letters: &[u8], line: &[u8], given: &[u64], data: &[u8]
 
 // ---- bytes
 
-// The calls that write, and agreement, are given cells; those that read a body are lent tables.
+// The calls that write, and agreement, are given cells; those that read a body are lent tables. A version is handed on whatever its size: what no message has, the call refuses.
 fn asked(call: u64, letters: &[u8], line: &[u8], given: &[u64], data: &[u8]) -> Sink
     ensures { λ r. ⌜ r .n ≤ 256 ⌝ }
 {
     match call {
-        48 => ask_metadata::read(version(at(given, 1)), given, data),
-        50 => ask_metadata::host(version(at(given, 1)), at(given, 2), data),
-        51 => ask_fetch::read(version(at(given, 1)), given, data),
+        48 => ask_metadata::read(signed(at(given, 1)), given, data),
+        50 => ask_metadata::host(signed(at(given, 1)), at(given, 2), data),
+        51 => ask_fetch::read(signed(at(given, 1)), given, data),
         22..=40 | 45..=47 | 49 | 52 => with_cells(call, letters, line, given, data),
-        _ => ask_reads::told(call, version(at(given, 1)), given, data),
+        _ => ask_reads::told(call, signed(at(given, 1)), given, data),
     }
 }
 

@@ -192,7 +192,7 @@ fn judged(msg: &[u8], v: u64, whole: bool, items: &mut [u64], tags: &mut [u64]) 
 
 fn answered(
     msg: &[u8],
-    version: i16,
+    version: i64,
     whole: bool,
     items: &mut [u64],
     tags: &mut [u64],
@@ -212,21 +212,21 @@ fn answered(
 // ---- the calls: each leaves the tables as they were where it refuses, and what is behind the rows filled where it does not
 
 // A prefix read, as the Rust reads: null items are none, and bytes may be left over.
-pub fn read(msg: &[u8], version: i16, items: &mut [u64], tags: &mut [u64]) -> ResponseReply
+pub fn read(msg: &[u8], version: i64, items: &mut [u64], tags: &mut [u64]) -> ResponseReply
     ensures { λ r. ⌜ (ofResponseReply r, now (items .exit) ∷ now (tags .exit) ∷ []) ≡ prefixRead Api.response version (now (items .entry) ∷ now (tags .entry) ∷ []) (now (msg .entry)) ⌝ }
 {
     answered(msg, version, false, items, tags)
 }
 
 // A whole read: the body of one layout is a body of no other.
-pub fn read_whole(msg: &[u8], version: i16, items: &mut [u64], tags: &mut [u64]) -> ResponseReply
+pub fn read_whole(msg: &[u8], version: i64, items: &mut [u64], tags: &mut [u64]) -> ResponseReply
     ensures { λ r. ⌜ (ofResponseReply r, now (items .exit) ∷ now (tags .exit) ∷ []) ≡ wholeRead Api.response version (now (items .entry) ∷ now (tags .entry) ∷ []) (now (msg .entry)) ⌝ }
 {
     answered(msg, version, true, items, tags)
 }
 
 // The body that answers a request sent at version `sent` is read whole at that version.
-pub fn read_answer(msg: &[u8], sent: i16, items: &mut [u64], tags: &mut [u64]) -> ResponseReply
+pub fn read_answer(msg: &[u8], sent: i64, items: &mut [u64], tags: &mut [u64]) -> ResponseReply
     ensures { λ r. ⌜ (ofResponseReply r, now (items .exit) ∷ now (tags .exit) ∷ []) ≡ wholeRead Api.response sent (now (items .entry) ∷ now (tags .entry) ∷ []) (now (msg .entry)) ⌝ }
 {
     read_whole(msg, sent, items, tags)

@@ -96,7 +96,7 @@ fn body(msg: &[u8], version: u64, table: &mut [u64]) -> RequestWalked
 }
 
 // The request at the front of a message. Its tags' rows go to the table from its start on, three cells each; after a refusal the table is as it was.
-pub fn read(msg: &[u8], version: i16, tags: &mut [u64]) -> RequestReply
+pub fn read(msg: &[u8], version: i64, tags: &mut [u64]) -> RequestReply
     ensures { λ r. ⌜ (ofRequestReply r, now (tags .exit) ∷ []) ≡ prefixRead Api.request version (now (tags .entry) ∷ []) (now (msg .entry)) ⌝ }
 {
     let v = version_of(version);

@@ -163,7 +163,7 @@ fn written(
 }
 
 // `tags` are rows of tag, and start and length of its data in `lent`; the texts are parts of `lent` too.
-pub fn write(out: &mut [u8], version: i16, lent: &[u8], body: RequestBody, tags: &[u64]) -> Written
+pub fn write(out: &mut [u8], version: i64, lent: &[u8], body: RequestBody, tags: &[u64]) -> Written
     ensures { λ r. ⌜ replied r (now (out .exit)) ≡ writeAnswer Api.request version (now (lent .entry)) (ofRequest body ∷ now (tags .entry) ∷ []) (now (out .entry)) ⌝ }
 {
     let v = version_of(version);

@@ -304,7 +304,7 @@ fn written(
 // `items` are rows of key, lowest and highest version and number of tags; `tags` rows of tag, and start and length of its data in `lent`.
 pub fn write(
     out: &mut [u8],
-    version: i16,
+    version: i64,
     lent: &[u8],
     body: ResponseBody,
     items: &[u64],

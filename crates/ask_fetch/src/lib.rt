@@ -46,7 +46,7 @@ fn all_shown(s: Sink, r: Rooms, topics: &[u64], partitions: &[u64], aborted: &[u
 }
 
 fn lent_three(
-    version: i16,
+    version: i64,
     given: &[u64],
     msg: &[u8],
     topics: &mut [u64],
@@ -67,7 +67,7 @@ fn lent_three(
     all_shown(s, r, topics, partitions, aborted)
 }
 
-fn small(version: i16, given: &[u64], msg: &[u8]) -> Sink
+fn small(version: i64, given: &[u64], msg: &[u8]) -> Sink
     ensures { λ r. ⌜ r .n ≤ 256 ⌝ }
 {
     let mut a = [CELL; 272];
@@ -76,7 +76,7 @@ fn small(version: i16, given: &[u64], msg: &[u8]) -> Sink
     lent_three(version, given, msg, &mut a, &mut b, &mut c)
 }
 
-fn large(version: i16, given: &[u64], msg: &[u8]) -> Sink
+fn large(version: i64, given: &[u64], msg: &[u8]) -> Sink
     ensures { λ r. ⌜ r .n ≤ 256 ⌝ }
 {
     let mut a = [CELL; 65552];
@@ -97,7 +97,7 @@ fn few(given: &[u64]) -> bool {
 }
 
 // A response, read; the rooms of its tables are the numbers of the words 2 to 4.
-pub fn read(version: i16, given: &[u64], msg: &[u8]) -> Sink
+pub fn read(version: i64, given: &[u64], msg: &[u8]) -> Sink
     ensures { λ r. ⌜ r .n ≤ 256 ⌝ }
 {
     if few(given) {

@@ -81,7 +81,7 @@ fn all_shown(
 }
 
 fn lent_five(
-    version: i16,
+    version: i64,
     given: &[u64],
     msg: &[u8],
     brokers: &mut [u64],
@@ -106,7 +106,7 @@ fn lent_five(
     all_shown(s, r, brokers, topics, partitions, replicas, synced)
 }
 
-fn small(version: i16, given: &[u64], msg: &[u8]) -> Sink
+fn small(version: i64, given: &[u64], msg: &[u8]) -> Sink
     ensures { λ r. ⌜ r .n ≤ 256 ⌝ }
 {
     let mut a = [CELL; 272];
@@ -117,7 +117,7 @@ fn small(version: i16, given: &[u64], msg: &[u8]) -> Sink
     lent_five(version, given, msg, &mut a, &mut b, &mut c, &mut d, &mut e)
 }
 
-fn large(version: i16, given: &[u64], msg: &[u8]) -> Sink
+fn large(version: i64, given: &[u64], msg: &[u8]) -> Sink
     ensures { λ r. ⌜ r .n ≤ 256 ⌝ }
 {
     let mut a = [CELL; 65552];
@@ -141,7 +141,7 @@ fn few(given: &[u64]) -> bool {
 }
 
 // A response, read; the rooms of its tables are the numbers of the words 2 to 6.
-pub fn read(version: i16, given: &[u64], msg: &[u8]) -> Sink
+pub fn read(version: i64, given: &[u64], msg: &[u8]) -> Sink
     ensures { λ r. ⌜ r .n ≤ 256 ⌝ }
 {
     if few(given) {
@@ -163,7 +163,7 @@ fn host_told(msg: &[u8], r: Host) -> Sink
 }
 
 // The host of the broker with that node.
-pub fn host(version: i16, node: u64, msg: &[u8]) -> Sink
+pub fn host(version: i64, node: u64, msg: &[u8]) -> Sink
     ensures { λ r. ⌜ r .n ≤ 256 ⌝ }
 {
     host_told(msg, lookup::host_of(msg, version, node))

@@ -25,7 +25,7 @@ fn part(given: &[u64], msg: &[u8]) -> Sink
 }
 
 // The reply, and what the call was lent.
-pub fn told(call: u64, version: i16, given: &[u64], msg: &[u8]) -> Sink
+pub fn told(call: u64, version: i64, given: &[u64], msg: &[u8]) -> Sink
     ensures { λ r. ⌜ r .n ≤ 256 ⌝ }
 {
     match call {

@@ -55,7 +55,7 @@ fn request_told(msg: &[u8], r: RequestReply) -> Sink {
 
 // ---- tables
 
-fn read(call: u64, version: i16, msg: &[u8], items: &mut [u64], tags: &mut [u64]) -> Sink {
+fn read(call: u64, version: i64, msg: &[u8], items: &mut [u64], tags: &mut [u64]) -> Sink {
     match call {
         21 => tagged(tags::tagged_fields(msg, tags)),
         41 => response_told(response::read(msg, version, items, tags)),
@@ -77,7 +77,7 @@ fn shown(s: Sink, call: u64, items: &[u64], rows: usize, tags: &[u64], room: usi
 
 fn lent_both(
     call: u64,
-    version: i16,
+    version: i64,
     msg: &[u8],
     items: &mut [u64],
     rows: usize,
@@ -96,7 +96,7 @@ fn lent_both(
     shown(s, call, items, rows, tags, room)
 }
 
-fn small(call: u64, version: i16, msg: &[u8], rows: usize, room: usize) -> Sink
+fn small(call: u64, version: i64, msg: &[u8], rows: usize, room: usize) -> Sink
     ensures { λ r. ⌜ r .n ≤ 256 ⌝ }
 {
     let mut items = [CELL; 272];
@@ -104,7 +104,7 @@ fn small(call: u64, version: i16, msg: &[u8], rows: usize, room: usize) -> Sink
     lent_both(call, version, msg, &mut items, rows, &mut tags, room)
 }
 
-fn large(call: u64, version: i16, msg: &[u8], rows: usize, room: usize) -> Sink
+fn large(call: u64, version: i64, msg: &[u8], rows: usize, room: usize) -> Sink
     ensures { λ r. ⌜ r .n ≤ 256 ⌝ }
 {
     let mut items = [CELL; 65552];
@@ -112,7 +112,7 @@ fn large(call: u64, version: i16, msg: &[u8], rows: usize, room: usize) -> Sink
     lent_both(call, version, msg, &mut items, rows, &mut tags, room)
 }
 
-fn sized(call: u64, version: i16, msg: &[u8], rows: u64, room: u64) -> Sink
+fn sized(call: u64, version: i64, msg: &[u8], rows: u64, room: u64) -> Sink
     ensures { λ r. ⌜ r .n ≤ 256 ⌝ }
 {
     if rows <= lent::FEW {
@@ -123,7 +123,7 @@ fn sized(call: u64, version: i16, msg: &[u8], rows: u64, room: u64) -> Sink
     large(call, version, msg, rows as usize, room as usize)
 }
 
-pub(crate) fn told(call: u64, version: i16, given: &[u64], msg: &[u8]) -> Sink
+pub(crate) fn told(call: u64, version: i64, given: &[u64], msg: &[u8]) -> Sink
     ensures { λ r. ⌜ r .n ≤ 256 ⌝ }
 {
     match call {

@@ -14,7 +14,7 @@ mod bodies;
 // A call by its number, and the version that it is put at.
 pub struct Call {
     pub number: u64,
-    pub version: i16,
+    pub version: i64,
 }
 
 // ---- the calls

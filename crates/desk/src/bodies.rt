@@ -41,12 +41,12 @@ fn response_told(r: api_versions::ResponseReply, items: &[u64], tags: &[u64]) ->
     }
 }
 
-pub(crate) fn prefix(version: i16, msg: &[u8], items: &mut [u64], tags: &mut [u64]) -> Sink {
+pub(crate) fn prefix(version: i64, msg: &[u8], items: &mut [u64], tags: &mut [u64]) -> Sink {
     let r = response::read(msg, version, lent(items), lent(tags));
     response_told(r, items, tags)
 }
 
-pub(crate) fn whole(version: i16, msg: &[u8], items: &mut [u64], tags: &mut [u64]) -> Sink {
+pub(crate) fn whole(version: i64, msg: &[u8], items: &mut [u64], tags: &mut [u64]) -> Sink {
     let r = response::read_whole(msg, version, lent(items), lent(tags));
     response_told(r, items, tags)
 }
@@ -71,7 +71,7 @@ fn request_told(r: api_versions_request::RequestReply, tags: &[u64]) -> Sink {
     }
 }
 
-pub(crate) fn request(version: i16, msg: &[u8], tags: &mut [u64]) -> Sink {
+pub(crate) fn request(version: i64, msg: &[u8], tags: &mut [u64]) -> Sink {
     let r = api_versions_request::read(msg, version, lent(tags));
     request_told(r, tags)
 }
@@ -99,7 +99,7 @@ fn agree_told(r: api_versions::ResponseReply, items: &[u64]) -> Sink {
     }
 }
 
-pub(crate) fn agree(version: i16, msg: &[u8], items: &mut [u64], tags: &mut [u64]) -> Sink {
+pub(crate) fn agree(version: i64, msg: &[u8], items: &mut [u64], tags: &mut [u64]) -> Sink {
     let r = response::read_whole(msg, version, lent(items), lent(tags));
     agree_told(r, items)
 }
@@ -147,7 +147,7 @@ fn metadata_told(
 }
 
 pub(crate) fn metadata(
-    version: i16,
+    version: i64,
     msg: &[u8],
     brokers: &mut [u64],
     topics: &mut [u64],
@@ -167,7 +167,7 @@ pub(crate) fn metadata(
     metadata_told(r, brokers, topics, partitions, replicas, synced)
 }
 
-pub(crate) fn host(version: i16, node: u64, msg: &[u8]) -> Sink {
+pub(crate) fn host(version: i64, node: u64, msg: &[u8]) -> Sink {
     match lookup::host_of(msg, version, node) {
         Host::Found { start, len } => text(part(begun(b"ok"), start, len), b"\n"),
         Host::Unknown => begun(b"ok none\n"),
@@ -198,7 +198,7 @@ fn fetch_told(
 }
 
 pub(crate) fn fetch(
-    version: i16,
+    version: i64,
     msg: &[u8],
     topics: &mut [u64],
     partitions: &mut [u64],

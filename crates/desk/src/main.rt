@@ -6,17 +6,10 @@ use lines_read::at;
 use lines_read::between;
 use lines_written::sink::Sink;
 use lines_written::sink::begun;
+use primitives::read::signed;
 
 mod bodies;
 mod tables;
-
-// The version that was asked for. Those that are too large for a byte are unknown to every message, as -1 is.
-fn version_of(c: u64) -> i16 {
-    if c < 256 {
-        return c as i16;
-    }
-    -1
-}
 
 // The question: what is asked (1 a response, 2 a response read whole, 3 a request, 4 agreement, 5 Metadata, 6 a host, 7 Fetch), the version, and the node.
 fn answer(
@@ -28,7 +21,7 @@ fn answer(
     nodes: &mut [u64],
     synced: &mut [u64],
 ) -> Sink {
-    let version = version_of(at(given, 1));
+    let version = signed(at(given, 1));
     match at(given, 0) {
         1 => bodies::prefix(version, msg, topics, partitions),
         2 => bodies::whole(version, msg, topics, partitions),

@@ -139,7 +139,7 @@ fn told(r: ResponseReply, items: &[u64]) {
 }
 
 // The tables begin as rows of no key.
-fn whole(msg: &[u8], version: i16, name: &[u8]) {
+fn whole(msg: &[u8], version: i64, name: &[u8]) {
     let mut items = [18446744073709551615u64; 12];
     let mut tags = [0u64; 9];
     say(b"  whole at ");
@@ -151,7 +151,7 @@ fn whole(msg: &[u8], version: i16, name: &[u8]) {
     );
 }
 
-fn prefix(msg: &[u8], version: i16, name: &[u8]) {
+fn prefix(msg: &[u8], version: i64, name: &[u8]) {
     let mut items = [18446744073709551615u64; 12];
     let mut tags = [0u64; 9];
     say(b"  prefix at ");
@@ -206,7 +206,7 @@ fn again(name: &[u8], r: Written, out: &[u8]) {
 }
 
 // Three items, the second with a tag, a throttle time and an own tag: fields that the version lacks are dropped.
-fn written(version: i16, name: &[u8]) {
+fn written(version: i64, name: &[u8]) {
     let mut out = [0u8; 40];
     let fields = ResponseBody {
         error: 0,

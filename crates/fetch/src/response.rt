@@ -36,7 +36,7 @@ fn walked(msg: &[u8], v: u64) -> Walked
 }
 
 // What a prefix read would say but for room: the body, the bytes used, and the cells of each table.
-pub fn measure(msg: &[u8], version: i16) -> Walked
+pub fn measure(msg: &[u8], version: i64) -> Walked
     ensures { λ r. ⌜ ofMeasure r ≡ metered (seen false Fetch.response version (now (msg .entry))) ⌝ }
 {
     match admit(version, 4, msg.len()) {
@@ -64,7 +64,7 @@ fn room_for(marks: Marks, t: usize, p: usize, a: usize) -> Room
 // A prefix read, as the Rust reads. The tables are left as they were where it refuses, and what is behind the rows filled where it does not.
 pub fn read(
     msg: &[u8],
-    version: i16,
+    version: i64,
     topics: &mut [u64],
     partitions: &mut [u64],
     aborted: &mut [u64],

@@ -262,7 +262,7 @@ fn written(
 // Unset, max bytes are the most that an Int32 holds, and the isolation level is 0.
 pub fn write(
     out: &mut [u8],
-    version: i16,
+    version: i64,
     lent: &[u8],
     body: RequestBody,
     topics: &[u64],

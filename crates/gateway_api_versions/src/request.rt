@@ -87,7 +87,7 @@ fn reply(r: RequestReply) -> RequestNumbers
 #[no_mangle]
 pub extern "C" fn befrolan_read_api_versions_request(
     msg: &[u8],
-    version: i16,
+    version: i64,
     tags: &mut [u64],
 ) -> RequestNumbers
     ensures { λ r. ⌜ (r, now (tags .exit) ∷ []) ≡ told requestNumbers (prefixRead Api.request version (now (tags .entry) ∷ []) (now (msg .entry))) ⌝ }
@@ -124,7 +124,7 @@ fn body_of(row: &[u64; 7]) -> RequestBody
 #[no_mangle]
 pub extern "C" fn befrolan_write_api_versions_request(
     out: &mut [u8],
-    version: i16,
+    version: i64,
     lent: &[u8],
     body: &[u64; 7],
     tags: &[u64],

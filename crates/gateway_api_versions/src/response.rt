@@ -59,7 +59,7 @@ fn reply(r: ResponseReply) -> ResponseNumbers
 #[no_mangle]
 pub extern "C" fn befrolan_read_api_versions_response(
     msg: &[u8],
-    version: i16,
+    version: i64,
     whole: u64,
     items: &mut [u64],
     tags: &mut [u64],
@@ -89,7 +89,7 @@ fn body_of(row: &[u64; 5]) -> ResponseBody
 #[no_mangle]
 pub extern "C" fn befrolan_write_api_versions_response(
     out: &mut [u8],
-    version: i16,
+    version: i64,
     lent: &[u8],
     body: &[u64; 5],
     items: &[u64],

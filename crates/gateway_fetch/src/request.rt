@@ -28,7 +28,7 @@ fn body_of(row: &[u64; 8]) -> RequestBody
 #[no_mangle]
 pub extern "C" fn befrolan_write_fetch_request(
     out: &mut [u8],
-    version: i16,
+    version: i64,
     lent: &[u8],
     body: &[u64; 8],
     topics: &[u64],

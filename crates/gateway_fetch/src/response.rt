@@ -41,7 +41,7 @@ fn reply(r: ResponseReply) -> FetchNumbers
 #[no_mangle]
 pub extern "C" fn befrolan_read_fetch_response(
     msg: &[u8],
-    version: i16,
+    version: i64,
     topics: &mut [u64],
     partitions: &mut [u64],
     aborted: &mut [u64],

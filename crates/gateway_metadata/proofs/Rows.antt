@@ -5,7 +5,7 @@ use Prim.Native.Nat.{ℕ, suc, zero}
 use lib.IntN.{ℤ}
 use lib.ListN.{getD}
 use mir.Facts.{toZ-ofZ}
-use mir.Syntax.{w16}
+use mir.Syntax.{w64}
 use mir.Val.{SFits, ofZ, toZ}
 use Rattle.layout.specs.Answers.{accepted, refused}
 use Rattle.layout.specs.Lookup.{Host, lookup}
@@ -79,5 +79,5 @@ none-told e r h = ap (λ (x : Numbers). shown 0 0 x 0 0 0 0 0 0 0) h
 
 -- ---- a host, at a version that passed an argument
 
-pub host-told : (node : ℕ) (z : ℤ) → SFits w16 z → (s : List ℕ) (h : Host) → h ≡ lookup node (toZ w16 (ofZ w16 z)) s → (r : HostNumbers) → r ≡ hostNumbers h → r ≡ hostNumbers (lookup node z s)
+pub host-told : (node : ℕ) (z : ℤ) → SFits w64 z → (s : List ℕ) (h : Host) → h ≡ lookup node (toZ w64 (ofZ w64 z)) s → (r : HostNumbers) → r ≡ hostNumbers h → r ≡ hostNumbers (lookup node z s)
 host-told node z g s h d r e = e ∙ ap hostNumbers (d ∙ ap (λ (y : ℤ). lookup node y s) (toZ-ofZ g))

@@ -39,7 +39,7 @@ fn reply(h: Host) -> HostNumbers
 
 // `node` is a cell, as in the table of brokers.
 #[no_mangle]
-pub extern "C" fn befrolan_find_host(msg: &[u8], version: i16, node: u64) -> HostNumbers
+pub extern "C" fn befrolan_find_host(msg: &[u8], version: i64, node: u64) -> HostNumbers
     ensures { λ r. ⌜ r ≡ hostNumbers (lookup node version (now (msg .entry))) ⌝ }
 {
     reply(lookup::host_of(msg, version, node))

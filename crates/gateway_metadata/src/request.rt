@@ -37,7 +37,7 @@ fn body_of(row: &[u64; 3]) -> RequestBody
 #[no_mangle]
 pub extern "C" fn befrolan_write_metadata_request(
     out: &mut [u8],
-    version: i16,
+    version: i64,
     lent: &[u8],
     body: &[u64; 3],
     topics: &[u64],

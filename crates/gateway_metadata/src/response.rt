@@ -89,7 +89,7 @@ fn reply(r: ResponseReply) -> MetadataNumbers
 #[no_mangle]
 pub extern "C" fn befrolan_read_metadata_response(
     msg: &[u8],
-    version: i16,
+    version: i64,
     brokers: &mut [u64],
     topics: &mut [u64],
     partitions: &mut [u64],

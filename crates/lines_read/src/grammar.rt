@@ -3,7 +3,6 @@ ghost use Rattle.lines_read.specs.Cases.{Stands};
 use crate::BYTES;
 use crate::CELLS;
 use crate::literals::at_most;
-use crate::literals::is_short;
 use crate::literals::number;
 use crate::literals::whole;
 use crate::pieces::size;
@@ -46,14 +45,13 @@ fn is_nothing(letter: u8, w: &[u8]) -> bool {
     }
 }
 
-// Is the word of the kind of the letter? V: a version. R, O: room for cells, for bytes. N: a number. L: one that is not negative. F: 1 or 0.
+// Is the word of the kind of the letter? R, O: room for cells, for bytes. N: a number. V: a version, which is any number. L: one that is not negative. F: 1 or 0.
 // B: bytes. C, D: cells, of a first table and of the last. P: a part. Of P and T `absent` is one, of Y (B) and Z (N) `null`.
 fn fits(letter: u8, w: &[u8]) -> bool {
     if is_nothing(letter, w) {
         return true;
     }
     match letter {
-        b'V' => is_short(number(w)),
         b'R' => at_most(whole(w), CELLS),
         b'O' => at_most(whole(w), BYTES),
         b'L' => at_most(whole(w), u64::MAX),

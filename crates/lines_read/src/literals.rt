@@ -85,19 +85,6 @@ pub(crate) fn at_most(v: Value, most: u64) -> bool {
     }
 }
 
-// Is it a number of 16 bits, from -32768 to 32767?
-pub(crate) fn is_short(v: Value) -> bool {
-    match v {
-        Value::Is(c) => {
-            if c < 32768 {
-                return true;
-            }
-            18446744073709551615 - c < 32768
-        }
-        Value::Bad => false,
-    }
-}
-
 // The number, and 0 where there is none.
 pub(crate) fn or_zero(v: Value) -> u64 {
     match v {

@@ -63,7 +63,7 @@ fn host_in(s: &[u8], racked: bool, throttled: bool, node: u64) -> Host
 }
 
 // The first broker with that node decides, if the whole message is accepted by a prefix read but for room.
-pub fn host_of(msg: &[u8], version: i16, node: u64) -> Host
+pub fn host_of(msg: &[u8], version: i64, node: u64) -> Host
     ensures { λ r. ⌜ ofHost r ≡ lookup node version (now (msg .entry)) ⌝ }
 {
     match measure(msg, version) {

@@ -46,7 +46,7 @@ fn walked(msg: &[u8], v: u64) -> Walked
 }
 
 // What a prefix read would say but for room: the body, the bytes used, and the cells of each table.
-pub fn measure(msg: &[u8], version: i16) -> Walked
+pub fn measure(msg: &[u8], version: i64) -> Walked
     ensures { λ r. ⌜ ofMeasure r ≡ metered (seen false Meta.response version (now (msg .entry))) ⌝ }
 {
     match admit(version, 4, msg.len()) {
@@ -80,7 +80,7 @@ fn room_for(brokers: usize, marks: Marks, b: usize, t: usize, p: usize, r: usize
 // A prefix read, as the Rust reads. The tables are left as they were where it refuses, and what is behind the rows filled where it does not.
 pub fn read(
     msg: &[u8],
-    version: i16,
+    version: i64,
     brokers: &mut [u64],
     topics: &mut [u64],
     partitions: &mut [u64],

@@ -132,7 +132,7 @@ fn is_allowed(creation: Creation) -> bool
 // `topics` are rows of start and length of a name in `lent`.
 pub fn write(
     out: &mut [u8],
-    version: i16,
+    version: i64,
     lent: &[u8],
     body: RequestBody,
     topics: &[u64],

@@ -8,7 +8,7 @@ use lib.Dec.{T}
 use lib.IntN.{natAbs, negsuc, pos, ℤ}
 use lib.Signed.{ltZ, mag, nonNeg}
 use mir.Facts.{toZ-ofZ}
-use mir.Syntax.{w16, w64}
+use mir.Syntax.{w64}
 use mir.Val.{Fits, SFits, ofZ, toZ}
 use borrow.Author.Tests.{le-ltb}
 use Rattle.layout.specs.Reading.{Refusal, bad, because}
@@ -26,7 +26,7 @@ below : (z : ℤ) → ltZ z (pos 0) ≡ true → 65536 ≡ versionOf z
 below (pos n) e = absurd (not-both e (le-ltb n 0 (omega arith)))
 below (negsuc n) e = refl
 
-cast : (z : ℤ) → ltZ z (pos 0) ≡ false → mag z < 2 ^ 15 → T (nonNeg z) × Fits w64 (natAbs z)
+cast : (z : ℤ) → ltZ z (pos 0) ≡ false → mag z < 2 ^ 63 → T (nonNeg z) × Fits w64 (natAbs z)
 cast (pos n) e m = (tt, record { fits = omega arith })
 cast (negsuc n) e m = absurd (not-both refl e)
 
@@ -35,14 +35,14 @@ itself (pos n) e = refl
 itself (negsuc n) e = absurd (not-both refl e)
 
 -- the same of a number that passed an argument
-module _ (z : ℤ) (f : SFits w16 z) where
-  pub version-below : ltZ (toZ w16 (ofZ w16 z)) (pos 0) ≡ true → 65536 ≡ versionOf z
+module _ (z : ℤ) (f : SFits w64 z) where
+  pub version-below : ltZ (toZ w64 (ofZ w64 z)) (pos 0) ≡ true → 65536 ≡ versionOf z
   version-below e = below z (rw (toZ-ofZ f) at e)
 
-  pub version-cast : ltZ (toZ w16 (ofZ w16 z)) (pos 0) ≡ false → T (nonNeg (toZ w16 (ofZ w16 z))) × Fits w64 (natAbs (toZ w16 (ofZ w16 z)))
+  pub version-cast : ltZ (toZ w64 (ofZ w64 z)) (pos 0) ≡ false → T (nonNeg (toZ w64 (ofZ w64 z))) × Fits w64 (natAbs (toZ w64 (ofZ w64 z)))
   version-cast e = rw (toZ-ofZ f) (cast z (rw (toZ-ofZ f) at e) (f .sfits))
 
-  pub version-itself : ltZ (toZ w16 (ofZ w16 z)) (pos 0) ≡ false → natAbs (toZ w16 (ofZ w16 z)) ≡ versionOf z
+  pub version-itself : ltZ (toZ w64 (ofZ w64 z)) (pos 0) ≡ false → natAbs (toZ w64 (ofZ w64 z)) ≡ versionOf z
   version-itself e = rw (toZ-ofZ f) (itself z (rw (toZ-ofZ f) at e))
 
 -- ---- a message's versions
@@ -73,17 +73,17 @@ module _ (m : Message) (z : ℤ) (v : ℕ) (e : v ≡ versionOf z) where
 
 -- ---- a version that passed an argument, in the answer of a call
 
-module _ (m : Message) (z : ℤ) (f : SFits w16 z) (olds : Tables) (s : List ℕ) (o : Answer × Tables) where
-  pub prefix-at : o ≡ readAnswer false m (toZ w16 (ofZ w16 z)) olds s → o ≡ prefixRead m z olds s
+module _ (m : Message) (z : ℤ) (f : SFits w64 z) (olds : Tables) (s : List ℕ) (o : Answer × Tables) where
+  pub prefix-at : o ≡ readAnswer false m (toZ w64 (ofZ w64 z)) olds s → o ≡ prefixRead m z olds s
   unfolding prefixRead
   prefix-at e = e ∙ ap (λ (y : ℤ). readAnswer false m y olds s) (toZ-ofZ f)
 
-  pub whole-at : o ≡ readAnswer true m (toZ w16 (ofZ w16 z)) olds s → o ≡ wholeRead m z olds s
+  pub whole-at : o ≡ readAnswer true m (toZ w64 (ofZ w64 z)) olds s → o ≡ wholeRead m z olds s
   unfolding wholeRead
   whole-at e = e ∙ ap (λ (y : ℤ). readAnswer true m y olds s) (toZ-ofZ f)
 
-  pub again-at : o ≡ wholeRead m (toZ w16 (ofZ w16 z)) olds s → o ≡ wholeRead m z olds s
+  pub again-at : o ≡ wholeRead m (toZ w64 (ofZ w64 z)) olds s → o ≡ wholeRead m z olds s
   again-at e = e ∙ ap (λ (y : ℤ). wholeRead m y olds s) (toZ-ofZ f)
 
-pub passed : (z : ℤ) → SFits w16 z → (v : ℕ) → v ≡ versionOf (toZ w16 (ofZ w16 z)) → v ≡ versionOf z
+pub passed : (z : ℤ) → SFits w64 z → (v : ℕ) → v ≡ versionOf (toZ w64 (ofZ w64 z)) → v ≡ versionOf z
 passed z f v e = e ∙ ap versionOf (toZ-ofZ f)

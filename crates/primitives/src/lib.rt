@@ -83,7 +83,7 @@ pub fn no_room(need: usize) -> Refusal
 }
 
 // A version as a number to compare with a message's last one.
-pub fn version_of(version: i16) -> u64
+pub fn version_of(version: i64) -> u64
     ensures { λ r. ⌜ r ≡ versionOf version ⌝ }
 {
     if version < 0 {

@@ -8,7 +8,7 @@ use lib.IntN.{pos, ℤ}
 use lib.ListN.{length}
 use native.Mathlib.Omega.{arith}
 use mir.Facts.{toZ-ofZ}
-use mir.Syntax.{w16}
+use mir.Syntax.{w64}
 use mir.Val.{SFits, ofZ, toZ}
 use Rattle.layout.specs.Answers.{Message, most, seen}
 use Rattle.layout.specs.Reading.{Res, bad, because}
@@ -23,7 +23,7 @@ use Rattle.walks.specs.declared.Admitted.{Admitted}
 
 -- ---- the three ways out, of a version that passed an argument
 
-module _ (z : ℤ) (f : SFits w16 z) (last n v : ℕ) (e : v ≡ versionOf (toZ w16 (ofZ w16 z))) where
+module _ (z : ℤ) (f : SFits w64 z) (last n v : ℕ) (e : v ≡ versionOf (toZ w64 (ofZ w64 z))) where
   pub no-version : (c : Refusal) → last < v → ofRefusal c ≡ because 1 0 → Judged z last n (Admitted.Refused c)
   unfolding Judged
   no-version c h d = inl (subst (λ (k : ℕ). last < k) (passed z f v e) h, d)
@@ -38,7 +38,7 @@ module _ (z : ℤ) (f : SFits w16 z) (last n v : ℕ) (e : v ≡ versionOf (toZ 
 
 -- ---- a message that was judged
 
-module _ (m : Message) (few : m .last < 65536) (z : ℤ) (f : SFits w16 z) (s : List ℕ) (r : Admitted) (j : Judged (toZ w16 (ofZ w16 z)) (m .last) (length s) r) where
+module _ (m : Message) (few : m .last < 65536) (z : ℤ) (f : SFits w64 z) (s : List ℕ) (r : Admitted) (j : Judged (toZ w64 (ofZ w64 z)) (m .last) (length s) r) where
   told : (x : Admitted) → r ≡ x → Judged z (m .last) (length s) x
   told x e = subst (λ (y : Admitted). Judged z (m .last) (length s) y) e (subst (λ (y : ℤ). Judged y (m .last) (length s) r) (toZ-ofZ f) j)
 

@@ -30,7 +30,7 @@ pub enum Admitted {
 }
 
 // The version first, up to the last one that there is, and then the size.
-pub fn admit(version: i16, last: u64, size: usize) -> Admitted
+pub fn admit(version: i64, last: u64, size: usize) -> Admitted
     ensures { λ r. ⌜ Judged version last size r ⌝ }
 {
     let v = version_of(version);

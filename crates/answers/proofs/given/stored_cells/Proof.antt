@@ -26,8 +26,8 @@ cells-requires-2 c κs = search needs
 at-requires : tie.Need-at-requires
 at-requires c κs = search needs
 
-version-requires : tie.Need-version-requires
-version-requires c κs = search needs
+signed-requires : tie.Need-signed-requires
+signed-requires c κs = search needs
 
 slice-reshare-prefix-told : tie.Need-slice-reshare-prefix-told
 slice-reshare-prefix-told c = search needs
@@ -64,7 +64,7 @@ stored-cells-spec =
     count-requires-2
     cells-requires-2
     at-requires
-    version-requires
+    signed-requires
     slice-reshare-prefix-told
     slice-aggregate-told
     slice-reshare-prefix-told-2
