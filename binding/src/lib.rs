@@ -7,9 +7,9 @@
 //! Nothing is copied on reading: rows go to tables that the caller keeps and lends, which grow where a message needs more,
 //! and texts, data and records are borrowed from the message.
 //!
-//! A version is any integer that an `i64` holds: an `i16`, as [`ApiVersionsResponse::agree`] gives it, or a wider one, which
-//! is handed on as it is. No cast can make a version of it that was not meant: what the message does not have is refused
-//! with 1 ([`Refusal::NO_VERSION`]).
+//! A version is any integer that an `i64` holds: an `i16`, as [`ApiVersionsResponse::agree`] gives it, or a wider one. It is
+//! handed on as it is, so a caller needs no cast, which could make another version of it; what the message does not have
+//! is refused with 1 ([`Refusal::NO_VERSION`]).
 //!
 //! # What the C interface asks of its caller
 //!
