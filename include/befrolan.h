@@ -1,9 +1,10 @@
 /* Befrolan: bodies of Kafka messages, read from bytes and written to bytes. The C interface.
  *
- * The functions hold no state, allocate nothing and keep no pointer. Every answer is a struct of numbers.
- * Each function's promise, which the prover has checked, stands at its definition: crates/gateway/src, and for the bodies
- * of a message crates/gateway_api_versions/src, crates/gateway_metadata/src and crates/gateway_fetch/src. All of them are
- * linked from target/staticlib/libbefrolan.a, which tools/staticlib makes.
+ * The functions hold no state, allocate nothing and keep no pointer. Every answer is numbers, in a struct where there are
+ * several. Each function's promise, which the prover has checked, stands at its definition: crates/gateway/src, for the
+ * bodies of a message crates/gateway_api_versions/src, crates/gateway_metadata/src and crates/gateway_fetch/src, and
+ * crates/gateway_agreement/src and crates/gateway_text/src. All of them are linked from target/staticlib/libbefrolan.a,
+ * which tools/staticlib makes.
  *
  * Slices. A slice is two parameters: a pointer, and how many elements there are. Where the length is 0 the pointer may be
  * null: nothing is read or written through it.
@@ -323,6 +324,12 @@ befrolan_numbers befrolan_write_primitive(
     uint64_t null,
     int64_t value,
     const uint8_t *content, size_t content_len);
+
+/* ---- texts */
+
+/* How many bytes at the front of the text are well-formed UTF-8, as RFC 3629 has it: whole characters, up to the first that is
+ * ill-formed or cut. It is text where that is all of it. Nothing is refused, and there is no BEFROLAN_MOST. */
+uint64_t befrolan_well_formed(const uint8_t *text, size_t text_len);
 
 /* ---- tagged fields, by themselves */
 

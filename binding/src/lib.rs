@@ -76,6 +76,18 @@ pub use metadata::{
 };
 pub use refusal::Refusal;
 
+/// How many bytes at the front of a text are well-formed UTF-8: whole characters, up to the first that is ill-formed or cut.
+/// Befrolan takes it as text where that is all of it. `str::from_utf8` of the standard library says the same.
+///
+/// ```
+/// assert_eq!(befrolan::well_formed("grün".as_bytes()), 5);
+/// assert_eq!(befrolan::well_formed(b"ab\xffc"), 2);
+/// ```
+pub fn well_formed(text: &[u8]) -> usize {
+    // SAFETY: pointer and length are those of one slice, which is only read.
+    unsafe { raw::befrolan_well_formed(text.as_ptr(), text.len()) as usize }
+}
+
 fn wrote(r: raw::Numbers) -> Result<usize, Refusal> {
     if r.number != 0 {
         return Err(Refusal::of(r.number, r.place, r.need));

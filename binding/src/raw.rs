@@ -171,4 +171,5 @@ extern "C" {
         partitions: *const i64,
         partitions_len: usize,
     ) -> Numbers;
+    pub fn befrolan_well_formed(text: *const u8, text_len: usize) -> u64;
 }

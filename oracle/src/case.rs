@@ -12,11 +12,6 @@ pub enum Case {
         call: &'static Named,
         message: Vec<u8>,
     },
-    Part {
-        message: Vec<u8>,
-        start: u64,
-        length: u64,
-    },
     Write {
         call: &'static Named,
         room: usize,
@@ -50,7 +45,6 @@ impl Case {
             Case::WellFormed(_) => "well_formed",
             Case::IsText(_) => "is_text",
             Case::Read { call, .. } => call.read,
-            Case::Part { .. } => "part",
             Case::Write { call, .. } => call.write,
             Case::ReadBody { call, .. } => call.name,
             Case::WriteBody { call, .. } => call.name,
@@ -73,10 +67,6 @@ impl Case {
         line.extend(self.name().as_bytes());
         match self {
             Case::WellFormed(bytes) | Case::IsText(bytes) | Case::Read { message: bytes, .. } => put(line, bytes),
-            Case::Part { message, start, length } => {
-                put(line, message);
-                write!(line, " {start} {length}").unwrap();
-            }
             Case::Write { call, room, value } => {
                 write!(line, " {room} ").unwrap();
                 match value {

@@ -40,9 +40,6 @@ pub fn judge(case: &Case) -> Verdict<'_> {
             of_library(text::well_formed(bytes), library)
         }
         Case::IsText(bytes) => of_library(text::is_text(bytes).into(), std::str::from_utf8(bytes).is_ok().into()),
-        Case::Part { message, start, length } => {
-            of_rules(vec![Word::Bytes(primitives::part(message, *start, *length))])
-        }
         Case::Agree(cells) => of_rules(agreement::agree(cells).into_iter().map(|n| Word::Number(n.into())).collect()),
         Case::Read { call, message } => judge_read(call.primitive, message),
         Case::Write { call, room, value } => {

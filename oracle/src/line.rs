@@ -10,7 +10,6 @@ pub const OUTPUT_FILL: u8 = 0xa5;
 pub enum Word<'a> {
     /// Wide enough for both a signed and an unsigned number of 64 bits.
     Number(i128),
-    Bytes(&'a [u8]),
     /// Contents, and where they start.
     Part(usize, &'a [u8]),
     Null,
@@ -76,7 +75,6 @@ impl Answer<'_> {
 pub fn put_word(line: &mut Vec<u8>, word: &Word) {
     match word {
         Word::Number(n) => put_number(line, *n),
-        Word::Bytes(bytes) => put_bytes(line, bytes),
         Word::Part(start, bytes) => {
             write!(line, "{start}:").unwrap();
             put_bytes(line, bytes);

@@ -26,7 +26,7 @@ impl Token<'static> {
 pub fn of_word<'a>(word: &Word<'a>) -> Token<'a> {
     match word {
         Word::Number(n) => Token::Number(*n),
-        Word::Part(_, contents) | Word::Bytes(contents) => Token::Contents(Cow::Borrowed(contents)),
+        Word::Part(_, contents) => Token::Contents(Cow::Borrowed(contents)),
         Word::Null => Token::Null,
         Word::Absent | Word::None => Token::Absent,
     }

@@ -231,6 +231,7 @@ static void null_primitives(void)
         CHECK(n == 0 ? wrote(B(1), 1) : wrote(zeros, n));
     }
     IS(primitive_numbers, befrolan_read_primitive(NULL, 0, 18), 1);
+    CHECK(befrolan_well_formed(NULL, 0) == 0);
     WRITES_NOTHING(befrolan_write_primitive(out(), 64, 18, 0, 0, NULL, 0), 1);
     WRITES(befrolan_write_primitive(out(), 64, BEFROLAN_NULLABLE_STRING, 1, 0, NULL, 0), 0xff, 0xff);
     WRITES(befrolan_write_primitive(out(), 64, BEFROLAN_NULLABLE_BYTES, 1, 0, NULL, 0), NONE);

@@ -35,7 +35,7 @@ int main(void)
     subject("Metadata and hosts", metadata_and_hosts);
     subject("Fetch responses", fetch_responses);
     subject("Fetch requests", fetch_requests);
-    subject("primitives and tagged fields", primitives);
+    subject("texts, primitives and tagged fields", primitives);
     subject("versions outside all, and null slices", boundary);
     printf("%d checks, %d failed\n", checks, failed);
     return failed != 0;

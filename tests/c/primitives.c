@@ -1,5 +1,37 @@
-/* The primitives and tagged fields, each by itself, read and written. */
+/* The text check; and the primitives and tagged fields, each by itself, read and written. */
 #include "lent.h"
+
+/* ---- texts */
+
+#define GOOD(n, ...) CHECK(befrolan_well_formed(B(__VA_ARGS__), LEN(__VA_ARGS__)) == (n))
+
+static void texts(void)
+{
+    CHECK(befrolan_well_formed(none, 0) == 0);
+    GOOD(1, 'a');
+    GOOD(0, 0x80);
+    GOOD(3, 'a', 0xc3, 0xa9);
+    GOOD(1, 'a', 0xc3);
+    GOOD(1, 'a', 0xc3, 'b', 'c');
+    GOOD(0, 0xc0, 0x80);
+    GOOD(0, 0xc1, 0xbf);
+    GOOD(2, 0xc2, 0x80);
+    GOOD(0, 0xe0, 0x9f, 0xbf);
+    GOOD(3, 0xe0, 0xa0, 0x80);
+    GOOD(3, 0xed, 0x9f, 0xbf);
+    GOOD(0, 0xed, 0xa0, 0x80);
+    GOOD(3, 0xee, 0x80, 0x80, 0xff);
+    GOOD(0, 0xf0, 0x8f, 0xbf, 0xbf);
+    GOOD(4, 0xf0, 0x90, 0x80, 0x80);
+    GOOD(4, 0xf4, 0x8f, 0xbf, 0xbf);
+    GOOD(0, 0xf4, 0x90, 0x80, 0x80);
+    GOOD(0, 0xf5, 0x80, 0x80, 0x80);
+    /* seven and more letters before what is wrong, since letters are looked at by eights */
+    GOOD(7, 'a', 'b', 'c', 'd', 'e', 'f', 'g', 0xff);
+    GOOD(9, 'a', 'b', 'c', 'd', 'e', 'f', 'g', 'h', 'i', 0xff, 'k');
+    /* no limit: NUL is a character, and there is one byte more than a message may have */
+    CHECK(befrolan_well_formed(large, BEFROLAN_MOST + 1) == BEFROLAN_MOST + 1);
+}
 
 /* ---- primitives, read */
 
@@ -193,6 +225,7 @@ static void tagged_fields(void)
 
 void primitives(void)
 {
+    texts();
     primitives_read();
     numbers_written();
     parts_written();

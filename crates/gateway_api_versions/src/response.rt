@@ -55,7 +55,7 @@ fn reply(r: ResponseReply) -> ResponseNumbers
     }
 }
 
-// A prefix read where `whole` is 0, else a whole one.
+// A prefix read where `whole` is 0, else a whole one, as the answer to a request at that version is read.
 #[no_mangle]
 pub extern "C" fn befrolan_read_api_versions_response(
     msg: &[u8],
@@ -69,7 +69,7 @@ pub extern "C" fn befrolan_read_api_versions_response(
     if whole == 0 {
         return reply(response::read(msg, version, items, tags));
     }
-    reply(response::read_whole(msg, version, items, tags))
+    reply(response::read_answer(msg, version, items, tags))
 }
 
 // ---- written

@@ -117,17 +117,13 @@ fn kind(case: &Case, verdict: &Verdict) -> String {
     format!("{} {:?} {:02} {} {rest} {lent}", case.name(), case.version(), verdict.number(), shape_of_case(case))
 }
 
-/// Primitives by their length, texts by what they begin with, parts by where they would stand, Metadata requests by
+/// Primitives by their length, texts by what they begin with, Metadata requests by
 /// auto-creation, Fetch requests by the most bytes at 3 and by isolation at 4.
 fn shape_of_case(case: &Case) -> String {
     match case {
         Case::Read { message, .. } => format!("{}", message.len().min(12)),
         Case::WellFormed(bytes) | Case::IsText(bytes) => {
             format!("{:x} {}", bytes.first().map_or(0, |b| b >> 4), bytes.len().min(5))
-        }
-        Case::Part { message, start, length } => {
-            let size = message.len() as u64;
-            format!("{:?} {:?}", start.cmp(&size), start.saturating_add(*length).cmp(&size))
         }
         Case::WriteBody { own, version, .. } => match &own[..] {
             [_, creation] => format!("{creation:?}"),
@@ -144,7 +140,7 @@ fn shape_of_word(word: &Word, signs: bool) -> char {
         Word::Number(n) if signs && *n < 0 => '-',
         Word::Number(n) if signs && *n == 0 => '0',
         Word::Number(_) => '+',
-        Word::Part(_, contents) | Word::Bytes(contents) => match contents.len() {
+        Word::Part(_, contents) => match contents.len() {
             0 => 'e',
             1..=126 => 'p',
             _ => 'l',

@@ -1,7 +1,7 @@
-//! Texts, parts of a message, and item rows to agree on.
+//! Texts, and item rows to agree on.
 use super::reads::MOST_CELLS;
 use super::rng::Rng;
-use super::wire::{damage, BOUNDARIES};
+use super::wire::damage;
 use super::Section;
 use crate::case::Case;
 
@@ -28,13 +28,6 @@ pub fn text(rng: &mut Rng) -> Case {
     } else {
         Case::WellFormed(text)
     }
-}
-
-pub fn part(rng: &mut Rng) -> Case {
-    let length = rng.length();
-    let message = rng.data(length);
-    let mut number = || if rng.one_in(3) { rng.pick(&BOUNDARIES) } else { rng.below(length + 3) as u64 };
-    Case::Part { start: number(), length: number(), message }
 }
 
 pub fn agree(rng: &mut Rng) -> Case {

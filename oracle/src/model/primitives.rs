@@ -184,14 +184,6 @@ impl<'a> Reader<'a> {
     }
 }
 
-/// As much of a part as the message has.
-pub fn part(message: &[u8], start: u64, length: u64) -> &[u8] {
-    let size = message.len() as u64;
-    let from = start.min(size);
-    let to = from + length.min(size - from);
-    &message[from as usize..to as usize]
-}
-
 /// A primitive called by itself, size not judged.
 pub fn read(primitive: Primitive, message: &[u8]) -> Read<Shown<'_>> {
     let mut reader = Reader::new(message, 0);

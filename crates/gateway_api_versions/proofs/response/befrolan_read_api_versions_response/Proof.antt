@@ -21,8 +21,8 @@ same-length-2 c = search needs
 returns : tie.Need-returns
 returns c = not-whole responseNumbers _ _ (c .reply .ensures) Api.response _ (c .before .before .before .before .before .before .before .before .before .before .before .before .fits .version) _ _ _ _ (c .before .before .before .before .before .before .before .before .if1 .taken) (c .before .before .before .before .before .read .ensures)
 
-read-whole-requires : tie.Need-read-whole-requires
-read-whole-requires c κs = search needs
+read-answer-requires : tie.Need-read-answer-requires
+read-answer-requires c κs = search needs
 
 reply-requires-2 : tie.Need-reply-requires-2
 reply-requires-2 c κs = search needs
@@ -34,7 +34,7 @@ same-length-4 : tie.Need-same-length-4
 same-length-4 c = search needs
 
 returns-2 : tie.Need-returns-2
-returns-2 c = is-whole responseNumbers _ _ (c .reply2 .ensures) Api.response _ (c .before .before .before .before .before .before .before .before .before .before .before .before .fits .version) _ _ _ _ (c .before .before .before .before .before .before .before .before .if1 .left) (c .before .before .before .before .before .read-whole .ensures)
+returns-2 c = is-whole responseNumbers _ _ (c .reply2 .ensures) Api.response _ (c .before .before .before .before .before .before .before .before .before .before .before .before .fits .version) _ _ _ _ (c .before .before .before .before .before .before .before .before .if1 .left) (c .before .before .before .before .before .read-answer .ensures)
 
 pub befrolan-read-api-versions-response-spec : {M : Type 1} → statement M
 befrolan-read-api-versions-response-spec =
@@ -45,7 +45,7 @@ befrolan-read-api-versions-response-spec =
     same-length
     same-length-2
     returns
-    read-whole-requires
+    read-answer-requires
     reply-requires-2
     same-length-3
     same-length-4

@@ -1,2 +1,0 @@
--- where the letters of a case stand
-pub mod Cases
