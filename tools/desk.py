@@ -1,8 +1,10 @@
-"""The night desk's command: asks the proved program `desk` what a body says, and puts Kafka's names to its numbers.
+"""The night desk's command: asks the proved calls what a body says, through the C interface, and puts Kafka's names to the numbers.
 
-Everything that is judged, is judged there. Here arguments are parsed, names looked up, and lines laid out."""
+Everything that is judged, is judged there. Here arguments are parsed, the bytes of the body found, names looked up, and lines laid out."""
+import itertools
 import json
 import pathlib
+import re
 import shutil
 import subprocess
 import sys
@@ -13,24 +15,79 @@ USAGE = """usage: ./befrolan read MESSAGE VERSION [FILE]   a body, read from its
        ./befrolan agree VERSION [FILE]          the same, and the versions to speak with that broker
        ./befrolan host NODE VERSION [FILE]      the host of a node, from a Metadata answer
        ./befrolan night                         the night that cannot come: bodies of every layout at every version
-MESSAGE: api-versions, api-versions-request, metadata or fetch. FILE, or standard input: hex digits (spaces, lines and
-# comments are passed over) or raw bytes. Options: --json; --raw or --hex where the input could be taken for the other.
-Exit: 0 accepted, 1 refused or not found, 2 not asked in this way, or not built."""
+MESSAGE: api-versions, api-versions-request, metadata or fetch.
+FILE, or standard input: a body without frame and header, as raw bytes or plain hex, which is two digits for each byte with
+spaces, lines and # comments between bytes. Input with a byte that no text has is raw bytes; text must be plain hex.
+Options: --json; --raw or --hex, which say what the input is; --body where a body is taken for a frame.
+Exit: 0 accepted, 1 refused or not found, 2 not asked in this way, no body given, or not built."""
 MEANS = dict(line.split(" ", 1) for line in (ROOT / "data/refusals.txt").read_text().splitlines())
-NAMES = {"api-versions": 1, "api-versions-request": 3, "metadata": 5, "fetch": 7}
-WHOLE, AGREE, HOST = 2, 4, 6
+# For each body that can be read: its call (docs/ANSWERS.md), and how many cells a row of each table has.
+READS = {"api-versions": ("response_read", (4, 3)), "api-versions-request": ("request_read", (3,)),
+         "metadata": ("metadata_read", (7, 5, 5, 1, 1)), "fetch": ("fetch_read", (3, 7, 2))}
+WHOLE = ("response_read_whole", (4, 3))
+# The most bytes that a message may have. One byte more is enough of it to be refused for its size.
+MOST = 1048576
+# No row takes more cells than this for each of its bytes in the body: a tag with no data has 3 cells for 2 bytes, and others have fewer.
+CELLS_A_BYTE = 2
 APIS = {18: "ApiVersions", 3: "Metadata", 1: "Fetch"}
 # A field that the version does not have.
 ABSENT = object()
 # These are about the message as a whole, and not about a byte of it.
-PLACELESS = (1, 2, 10)
+PLACELESS = (1, 2)
+SOME_MINUTES = "the first time this takes some minutes"
 
 
 class Usage(Exception):
     """The command was not asked as it can be."""
 
 
-# ---- the proved programs
+class NoBody(Exception):
+    """The input is no body: what it is, where that is seen, and what to do."""
+
+
+# ---- the proved calls, and the program of the night
+
+
+def answering(cases):
+    """The words of the answer to each case. tools/answers builds the program that asks the library, where that was not done yet."""
+    need_kit()
+    if not (ROOT / "target/c/answers").exists():
+        print(f"befrolan: proving and building the library; {SOME_MINUTES}", file=sys.stderr)
+    words = [ROOT / "tools/answers", str(CELLS_A_BYTE * (MOST + 1))]
+    made = subprocess.run(words, input="".join(case + "\n" for case in cases), stdout=subprocess.PIPE, text=True)
+    answers = [line.split() for line in made.stdout.splitlines()]
+    if made.returncode != 0 or len(answers) != len(cases):
+        sys.exit(fail(f"the library could not be asked: tools/answers ended with {made.returncode}"))
+    for said in answers:
+        if said[0] not in ("ok", "no") or said[-1] in ("broken", "stray"):
+            sys.exit(fail(f"the library was asked, and answered: {said[0]} .. {said[-1]}"))
+    return answers
+
+
+def wording(read, version, body):
+    """The case of a read, with room for the rows of any body of this length."""
+    call, widths = read
+    body = body[:MOST + 1]
+    rooms = [str(CELLS_A_BYTE * len(body))] * len(widths)
+    return " ".join([call, str(version), *rooms, body.hex() or "-"])
+
+
+def ask(read, version, body):
+    """The words of a refusal, or of the own row with `ok` and the bytes used in front; and the rows of each table."""
+    *words, _ = answering([wording(read, version, body)])[0]
+    first = len(words) - len(read[1])
+    return words[:first], [rows(table, width) for table, width in zip(words[first:], read[1])]
+
+
+def rows(table, width):
+    """The rows of a table, as they are taken from it; nobody takes more than were filled."""
+    return zip(*[cells(table)] * width)
+
+
+def cells(table):
+    for piece in table.split(","):
+        cell, _, times = piece.partition("*")
+        yield from itertools.repeat(int(cell), int(times or 1))
 
 
 def built(program):
@@ -40,9 +97,8 @@ def built(program):
     newest = max(f.stat().st_mtime for f in [ROOT / "crates.txt", *(ROOT / "crates").rglob("*")])
     if binary.exists() and stamp.exists() and newest <= stamp.stat().st_mtime:
         return binary
-    if shutil.which("rt") is None:
-        sys.exit(fail("the Rattle kit is not here: there is no command rt"))
-    print(f"befrolan: proving and building {program}; the first time this takes some minutes", file=sys.stderr)
+    need_kit()
+    print(f"befrolan: proving and building {program}; {SOME_MINUTES}", file=sys.stderr)
     made = subprocess.Popen([ROOT / "tools/rt", "check", program], cwd=ROOT, stdout=subprocess.PIPE, stderr=subprocess.STDOUT, text=True)
     last = []
     for line in made.stdout:
@@ -56,27 +112,22 @@ def built(program):
     return binary
 
 
+def need_kit():
+    if shutil.which("rt") is None:
+        sys.exit(fail("the Rattle kit is not here: there is no command rt"))
+
+
 def fail(why):
     print("befrolan: " + why, file=sys.stderr)
     return 2
 
 
-def run(program, words, body):
-    made = subprocess.run([ROOT / "tools/x86-run", built(program), *words], input=body, capture_output=True)
+def run(program):
+    made = subprocess.run([ROOT / "tools/x86-run", built(program)], capture_output=True)
     if made.returncode != 0:
         sys.stderr.write(made.stderr.decode(errors="replace"))
         sys.exit(fail(f"{program} ended with {made.returncode}"))
     return made.stdout.decode("ascii").splitlines()
-
-
-def ask(question, version, body, node=0):
-    """The first line as words, and the rows of each table as lists of numbers."""
-    lines = run("desk", [f"{question} {version} {node}"], body)
-    tables = {}
-    for line in lines[1:]:
-        word, *cells = line.split()
-        tables.setdefault(word, []).append([int(c) for c in cells])
-    return lines[0].split(), tables
 
 
 # ---- what a body says, under the guide's names. A field that the version lacks is left out; null is None.
@@ -90,79 +141,91 @@ def number(word):
     return ABSENT if word == "absent" else int(word)
 
 
-def text(body, word):
+def text(word):
+    """A text of the own row, which an answer shows with its bytes."""
     if word in ("absent", "null"):
         return ABSENT if word == "absent" else None
-    start, length = map(int, word.split(":"))
+    _, _, pieces = word.partition(":")
+    return b"".join(some_bytes(piece) for piece in pieces.split(",") if piece != "-").decode()
+
+
+def some_bytes(piece):
+    digits, _, times = piece.partition("*")
+    return bytes.fromhex(digits) * int(times or 1)
+
+
+def text_at(body, start, length):
     return body[start : start + length].decode()
 
 
-def cut(rows, count):
+def cut(table, count):
     """Takes so many rows from the front."""
-    taken = rows[:count]
-    del rows[:count]
-    return taken
+    return list(itertools.islice(table, count))
 
 
-def tagged(body, rows, count):
+def tagged(body, tags, count):
     if count < 0:
         return ABSENT
-    return [row(tag=tag, data=body[start : start + length].hex()) for tag, start, length in cut(rows, count)]
+    return [row(tag=tag, data=body[start : start + length].hex()) for tag, start, length in cut(tags, count)]
 
 
 def response(body, words, tables):
-    error, _, throttle, own = words
-    tags = tables.get("tag", [])
+    error, items, throttle, own = words
+    every, tags = tables
     keys = [row(api_key=key, min_version=low, max_version=high, _tagged_fields=tagged(body, tags, count))
-            for key, low, high, count in tables.get("item", [])]
+            for key, low, high, count in cut(every, int(items))]
     return row(error_code=int(error), api_keys=keys, throttle_time_ms=number(throttle), _tagged_fields=tagged(body, tags, int(own)))
 
 
 def request(body, words, tables):
     name, version, own = words
-    return row(client_software_name=text(body, name), client_software_version=text(body, version),
-               _tagged_fields=tagged(body, tables.get("tag", []), int(own)))
+    return row(client_software_name=text(name), client_software_version=text(version), _tagged_fields=tagged(body, tables[0], int(own)))
 
 
-def nodes(rows, count):
-    return None if count < 0 else [node for (node,) in cut(rows, count)]
+def nodes(table, count):
+    return None if count < 0 else [node for (node,) in cut(table, count)]
+
+
+def rack(body, kind, start, length):
+    return (ABSENT, None, text_at(body, start, length))[kind]
 
 
 def metadata(body, words, tables):
-    throttle, _, cluster, controller, _ = words
-    kinds = ("absent", "null", "{}:{}")
-    brokers = [row(node_id=node, host=text(body, f"{start}:{length}"), port=port, rack=text(body, kinds[kind].format(first, size)))
-               for node, start, length, port, kind, first, size in tables.get("broker", [])]
-    every = tables.get("partition", [])
-    replicas, synced = tables.get("replica", []), tables.get("isr", [])
+    throttle, brokers, cluster, controller, topics = words
+    every_broker, every_topic, every_partition, replicas, synced = tables
 
     def partitions(count):
         return [row(error_code=error, partition_index=index, leader_id=leader, replica_nodes=nodes(replicas, some), isr_nodes=nodes(synced, few))
-                for error, index, leader, some, few in cut(every, count)]
+                for error, index, leader, some, few in cut(every_partition, count)]
 
-    topics = [row(error_code=error, name=text(body, f"{start}:{length}"), is_internal=ABSENT if internal < 0 else internal == 1,
-                  partitions=partitions(count)) for error, start, length, internal, count in tables.get("topic", [])]
-    return row(throttle_time_ms=number(throttle), brokers=brokers, cluster_id=text(body, cluster), controller_id=number(controller), topics=topics)
+    return row(throttle_time_ms=number(throttle),
+               brokers=[row(node_id=node, host=text_at(body, start, length), port=port, rack=rack(body, *where))
+                        for node, start, length, port, *where in cut(every_broker, int(brokers))],
+               cluster_id=text(cluster), controller_id=number(controller),
+               topics=[row(error_code=error, name=text_at(body, start, length), is_internal=ABSENT if internal < 0 else internal == 1,
+                           partitions=partitions(count)) for error, start, length, internal, count in cut(every_topic, int(topics))])
 
 
 def fetch(version, body, words, tables):
-    throttle, _ = words
-    every, pairs = tables.get("partition", []), tables.get("aborted", [])
+    throttle, topics = words
+    every_topic, every_partition, pairs = tables
 
     def partitions(count):
         return [row(partition_index=index, error_code=error, high_watermark=high, last_stable_offset=stable if version >= 4 else ABSENT,
                     aborted_transactions=[row(producer_id=p, first_offset=o) for p, o in cut(pairs, few)] if version >= 4 else ABSENT,
                     records=row(start=start, length=length))
-                for index, error, high, stable, few, start, length in cut(every, count)]
+                for index, error, high, stable, few, start, length in cut(every_partition, count)]
 
-    topics = [row(topic=text(body, f"{start}:{length}"), partitions=partitions(count))
-              for start, length, count in tables.get("topic", [])]
-    return row(throttle_time_ms=number(throttle), responses=topics)
+    return row(throttle_time_ms=number(throttle),
+               responses=[row(topic=text_at(body, start, length), partitions=partitions(count))
+                          for start, length, count in cut(every_topic, int(topics))])
 
 
-def agreed(tables):
+def agreed(items):
+    given = ",".join(str(cell) for item in items for cell in item) or "-"
+    _, *numbers = answering([f"agree {given}"])[0]
     return [row(api_key=key, api=APIS[key], version=None if version < 0 else version, broker_maximum=None if top < 0 else top)
-            for key, version, top in tables["agreed"]]
+            for key, version, top in rows(",".join(numbers), 3)]
 
 
 # ---- layout
@@ -223,9 +286,7 @@ def refused(what, body, words, json_wanted, more=()):
         return 1
     n, place = said["number"], said["place"]
     print(f"{what}: refused with {n}: {said['means']}")
-    if n == 10:
-        print(f"The body is good. One of its tables has {said['need']} rows, and this command has no room for them.")
-    elif n in PLACELESS:
+    if n in PLACELESS:
         print("place 0: it is about the message as a whole")
     else:
         print(f"place {place} of {len(body)} bytes" + (", which is the end of the message" if place == len(body) else ""))
@@ -238,8 +299,10 @@ def other_layouts(body, version, words):
     """Of the three layouts at most one accepts a body: which, if it is not the one asked for."""
     if version not in range(4) or int(words[1]) in PLACELESS:
         return []
-    for other, name in ((0, "0"), (1, "1 or 2"), (3, "3")):
-        if other != version and (other, version) != (1, 2) and ask(WHOLE, other, body)[0][0] == "ok":
+    others = [(other, name) for other, name in ((0, "0"), (1, "1 or 2"), (3, "3")) if other != version and (other, version) != (1, 2)]
+    answers = answering([wording(WHOLE, other, body) for other, _ in others])
+    for (_, name), answer in zip(others, answers):
+        if answer[0] == "ok":
             return [f"Read whole, it is a body of version {name}: was the broker swapped, or the request sent at another version?"]
     return ["Read whole, it is a body of no version: was it cut, or is it another message?"]
 
@@ -254,31 +317,30 @@ def accepted(what, body, used, said, json_wanted):
 
 
 def read(message, version, body, json_wanted, whole=False):
-    question = WHOLE if whole else NAMES[message]
     what = f"{message} version {version}" + (", read whole" if whole else "")
-    words, tables = ask(question, version, body)
+    words, tables = ask(WHOLE if whole else READS[message], version, body)
     if words[0] != "ok":
-        hint = question in (1, WHOLE) and not json_wanted
+        hint = message == "api-versions" and not json_wanted
         return refused(what, body, words, json_wanted, other_layouts(body, version, words) if hint else ())
-    own = words[2:]
-    said = {1: response, 3: request, 5: metadata}.get(NAMES[message], lambda *given: fetch(version, *given))(body, own, tables)
-    return accepted(what, body, int(words[1]), said, json_wanted)
+    says = {"api-versions": response, "api-versions-request": request, "metadata": metadata}.get(message, lambda *given: fetch(version, *given))
+    return accepted(what, body, int(words[1]), says(body, words[2:], tables), json_wanted)
 
 
 def agree(version, body, json_wanted):
     what = f"api-versions version {version}, read whole"
-    words, tables = ask(AGREE, version, body)
+    words, tables = ask(WHOLE, version, body)
     if words[0] != "ok":
         return refused(what, body, words, json_wanted, () if json_wanted else other_layouts(body, version, words))
-    return accepted(what, body, int(words[1]), row(agreed=agreed(tables)), json_wanted)
+    _, used, _, items, *_ = words
+    return accepted(what, body, int(used), row(agreed=agreed(cut(tables[0], int(items)))), json_wanted)
 
 
 def host(node, version, body, json_wanted):
     what = f"host of node {node}, metadata version {version}"
-    words, _ = ask(HOST, version, body, node)
+    words = answering([f"host {version} {node} {body[:MOST + 1].hex() or '-'}"])[0]
     if words[0] != "ok":
         return refused(what, body, words, json_wanted)
-    found = None if words[1] == "none" else text(body, words[1])
+    found = None if words[1] == "none" else text(words[1])
     if json_wanted:
         print(json.dumps(row(message=what, accepted=True, host=found)))
     else:
@@ -287,9 +349,108 @@ def host(node, version, body, json_wanted):
 
 
 def night(json_wanted):
-    said = run("feared_night", [], b"")
+    said = run("feared_night")
     print(json.dumps({"night": said}) if json_wanted else "\n".join(said))
     return 0
+
+
+# ---- the input: raw bytes or plain hex, and no frame
+
+
+DUMP = """It looks like a dump, whose lines begin with offsets. xxd -r makes raw bytes of a dump of xxd. Else give the bytes that were dumped,
+raw or as xxd -p writes them; from Wireshark copy them as a hex stream. Do not copy columns by hand: some dumps swap bytes."""
+ALL_BYTES = "\nIf there are no offsets and all of it is bytes, ask with --hex."
+SIGNS = "Leave out all but the digits: each 0x, \\x, colon, comma and dash."
+BASE64 = "If it is base64, base64 -d turns it into raw bytes, which can be given as they are."
+DIGITS = """A digit is missing, or one is too many; a byte is written 0a and not a. If a line was broken inside a byte, join the lines
+with tr -d '\\n'."""
+PLAIN = """Plain hex is two digits for each byte, with spaces, lines and # comments between bytes. If the input is raw bytes and no
+text, ask with --raw."""
+# Control characters that stand in no text. Bell to return (07 to 0d), DOS's end of a file (1a) and escape (1b) do.
+NO_TEXT = re.compile(rb"[\x00-\x06\x0e-\x19\x1c-\x1f\x7f]")
+UTF8_MARK, UTF16_MARKS = b"\xef\xbb\xbf", (b"\xff\xfe", b"\xfe\xff")
+# A header, in words: how many bytes stand in front of the mark, with the size; what they are; what comes between the mark and the body.
+RESPONSE = (8, "the size and the correlation id, 4 bytes each", "")
+REQUEST = (12, "the size (4 bytes), the API key (2), the version (2) and the correlation id (4)", "the client id (its length in 2 bytes, its text), ")
+TAGS = "the header's tagged fields (one byte 00, if there are none), "
+# The header of each message, and the first version at which it has tagged fields.
+HEADERS = {"api-versions": (RESPONSE, None), "api-versions-request": (REQUEST, 3), "metadata": (RESPONSE, 9), "fetch": (RESPONSE, 12)}
+
+
+def bytes_of(name, data, form):
+    if form == "--raw":
+        return data
+    if form == "" and data[:2] in UTF16_MARKS:
+        raise NoBody(f"{name} begins as text in UTF-16 does\nSave it as plain text, in UTF-8 or ASCII. If it is raw bytes, ask with --raw.")
+    if form == "" and NO_TEXT.search(data):
+        return data
+    return plain_hex(name, data, form == "--hex")
+
+
+def plain_hex(name, data, certain):
+    """The bytes of a text of hex digits. Lines that seem to begin with offsets are taken as bytes only where the caller is certain."""
+    lines = [line.decode(errors="replace").split("#")[0] for line in data.removeprefix(UTF8_MARK).splitlines()]
+    for i, line in enumerate(lines):
+        fault = fault_in(line)
+        if fault:
+            raise no_hex(name, i, *fault)
+    words = [line.split() for line in lines]
+    if not certain and offsets_in([some for some in words if some]):
+        first = next(i for i, some in enumerate(words) if some)
+        column = lines[first].index(words[first][0])
+        raise no_hex(name, first, column, "the line begins with an offset, the number of bytes before it", DUMP + ALL_BYTES)
+    return bytes.fromhex("".join(map("".join, words)))
+
+
+def no_hex(name, line, column, why, advice):
+    return NoBody("\n".join(part for part in (f"{name}, line {line + 1}, column {column + 1}: {why}", advice, PLAIN) if part))
+
+
+def fault_in(line):
+    """What is no byte in a line: the column, why, and what to do about it."""
+    for word in re.finditer(r"\S+", line):
+        other = re.search("[^0-9A-Fa-f]", word[0])
+        if other:
+            return word.start() + other.start(), f"{other[0]!r} is no hex digit", advice_on(line)
+        digits = len(word[0])
+        if digits % 2 == 1:
+            # hexdump and od write offsets of seven digits.
+            is_offset = digits == 7 and not line[: word.start()].strip()
+            return word.start(), f"an odd number of hex digits together ({digits}), and a byte has two", DUMP if is_offset else DIGITS
+    return None
+
+
+def advice_on(line):
+    """What to do about a line that has something else than digits, by what it looks like."""
+    if re.match(r"\s*(0[xX])?[0-9A-Fa-f]{4,}(:|\s.*\|)", line):
+        return DUMP
+    if re.search(r"[0\\][xX]|[0-9A-Fa-f]{2}[:,-]", line):
+        return SIGNS
+    return BASE64 if re.fullmatch(r"\s*[A-Za-z0-9+/]+=*\s*", line) else ""
+
+
+def offsets_in(lines):
+    """The first word of each line is longer than a byte and says how many bytes stand before it, as in a dump; on a single line the others are bytes."""
+    before = 0
+    for first, *others in lines:
+        if len(first) == 2 or int(first, 16) != before:
+            return False
+        before += sum(map(len, others)) // 2
+    return before > 0 and (len(lines) > 1 or all(len(word) == 2 for word in lines[0][1:]))
+
+
+def refuse_frame(name, message, version, data):
+    """A frame begins with its size: how many bytes come after it."""
+    (place, front, client), tags_from = HEADERS[message]
+    after = len(data) - 4
+    if len(data) < place or int.from_bytes(data[:4], "big") != after:
+        return
+    tags = TAGS if tags_from is not None and version >= tags_from else ""
+    raise NoBody("\n".join([
+        f"{name} is a frame and not a body: its first 4 bytes say that {after} bytes follow, and {after} do",
+        *around(data, place),
+        f"In front of the mark: {front}. From the mark on: {client}{tags}the body.",
+        "Give the body alone. If it is a body as it stands, ask with --body."]))
 
 
 # ---- arguments
@@ -305,48 +466,40 @@ def whole_number(word, low, high, name):
     return n
 
 
-def bytes_of(data, form):
-    """Hex digits, if there is nothing else; or the bytes as they are."""
-    digits = b"".join(b"".join(line.split(b"#")[0].split()) for line in data.splitlines())
+def input_of(words):
+    """The input, and how it is called."""
     try:
-        if form != "--raw" and (digits or form == "--hex"):
-            return bytes.fromhex(digits.decode("ascii"))
-    except ValueError:
-        if form == "--hex":
-            raise Usage("the input has something else than pairs of hex digits") from None
-    return data
-
-
-def body_of(words, form):
-    try:
-        data = pathlib.Path(words[0]).read_bytes() if words else sys.stdin.buffer.read()
+        return (words[0], pathlib.Path(words[0]).read_bytes()) if words else ("standard input", sys.stdin.buffer.read())
     except OSError as e:
         raise Usage(f"{words[0]}: {e.strerror}") from None
-    return bytes_of(data, form)
 
 
 def main(words):
-    flags = [w for w in words if w.startswith("--")]
+    flags = {w for w in words if w.startswith("--")}
     command, *rest = [w for w in words if not w.startswith("--")] or [""]
-    if not set(flags) <= {"--json", "--raw", "--hex"} or len(set(flags) - {"--json"}) > 1:
-        raise Usage("options are --json, and --raw or --hex")
-    form = next((f for f in flags if f != "--json"), "")
+    if not flags <= {"--json", "--raw", "--hex", "--body"} or {"--raw", "--hex"} <= flags:
+        raise Usage("options are --json, --body, and --raw or --hex")
     wanted = {"read": 2, "whole": 1, "agree": 1, "host": 2, "night": 0}
     if command not in wanted or not wanted[command] <= len(rest) <= wanted[command] + (command != "night"):
         raise Usage("")
+    json_wanted = "--json" in flags
     if command == "night":
-        return night("--json" in flags)
+        return night(json_wanted)
     first = rest[: wanted[command]]
-    if command == "read" and first[0] not in NAMES:
+    if command == "read" and first[0] not in READS:
         raise Usage(f"there is no message {first[0]}")
+    message = {"read": first[0], "host": "metadata"}.get(command, "api-versions")
     version = whole_number(first[-1], -(2**63), 2**63 - 1, "VERSION")
     node = whole_number(first[0], -(2**31), 2**31 - 1, "NODE") if command == "host" else 0
-    body = body_of(rest[wanted[command]:], form)
+    name, data = input_of(rest[wanted[command]:])
+    body = bytes_of(name, data, "--raw" if "--raw" in flags else "--hex" if "--hex" in flags else "")
+    if "--body" not in flags:
+        refuse_frame(name, message, version, body)
     if command == "host":
-        return host(node, version, body, "--json" in flags)
+        return host(node, version, body, json_wanted)
     if command == "agree":
-        return agree(version, body, "--json" in flags)
-    return read(first[0] if command == "read" else "api-versions", version, body, "--json" in flags, command == "whole")
+        return agree(version, body, json_wanted)
+    return read(message, version, body, json_wanted, command == "whole")
 
 
 try:
@@ -354,5 +507,7 @@ try:
 except Usage as why:
     print(f"befrolan: {why}\n{USAGE}" if str(why) else USAGE, file=sys.stderr)
     sys.exit(2)
+except NoBody as why:
+    sys.exit(fail(str(why)))
 except BrokenPipeError:
     sys.exit(1)

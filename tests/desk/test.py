@@ -1,4 +1,4 @@
-"""The night desk's command against what it must say: stored cases, bodies made here from values, and questions that cannot be asked."""
+"""The night desk's command against what it must say: stored cases, bodies made here from values, input that is no body, and questions that cannot be asked."""
 import json
 import pathlib
 import random
@@ -16,6 +16,12 @@ def asked(words, body=b""):
     return made.stdout.decode(), made.stderr.decode(), made.returncode
 
 
+def told(words, body):
+    """What is answered in JSON, or nothing where there is no answer; and the exit."""
+    out, _, code = asked([*words, "--json"], body)
+    return json.loads(out or "{}"), code
+
+
 def check(what, found, wanted):
     global tried
     tried += 1
@@ -25,11 +31,12 @@ def check(what, found, wanted):
 
 
 def stored():
-    """A line with $ is a question; what follows is what is printed, and the exit."""
+    """A line with $ is a question; what follows is what is printed, as an answer or, with exit 2, as an error, and the exit."""
     for case in (ROOT / "tests/desk/cases.txt").read_text().split("$ ")[1:]:
         question, _, answer = case.partition("\n")
-        out, _, code = asked(question.split())
-        check(question, f"{out}exit {code}\n", answer)
+        out, err, code = asked(question.split())
+        check(question, f"{err if code == 2 else out}exit {code}\n", answer)
+        check(f"{question}, on the other stream", out if code == 2 else err, "")
 
 
 # ---- bodies from values, by the guide's grammar
@@ -95,43 +102,111 @@ def made():
              "cluster_id": luck.choice([None, name()]), "controller_id": -1,
              "topics": [{"error_code": 0, "name": name(), "is_internal": luck.random() < 0.5,
                          "partitions": [partition(i) for i in range(luck.randrange(9))]} for _ in range(topics)]}
-        out, _, code = asked(["read", "metadata", "4", "--json"], metadata(v))
-        check(f"metadata with {topics} topics", (json.loads(out)["body"], code), (v, 0))
+        said, code = told(["read", "metadata", "4"], metadata(v))
+        check(f"metadata with {topics} topics", (said.get("body"), code), (v, 0))
     for keys in (0, 1, 60):
         v = {"error_code": -1, "api_keys": [{"api_key": luck.randrange(-9, 99), "min_version": 0, "max_version": luck.randrange(-1, 20),
                                              "_tagged_fields": tag()} for _ in range(keys)], "throttle_time_ms": 5, "_tagged_fields": tag()}
-        out, _, code = asked(["whole", "3", "--json", "--raw"], answers(v))
-        check(f"an answer with {keys} rows", (json.loads(out)["body"], code), (v, 0))
+        said, code = told(["whole", "3", "--raw"], answers(v))
+        check(f"an answer with {keys} rows", (said.get("body"), code), (v, 0))
 
 
 def sizes():
-    """A Fetch response of exactly the most bytes, one of a byte more, and one with more rows than the command has room for."""
+    """A Fetch response of exactly the most bytes, one of a byte more, and one of many more."""
     front = i32(0) + i32(1) + string("t") + i32(1) + i32(0) + i16(0) + i64(1) + i64(1) + i32(0)
     fill = 1048576 - len(front) - 4
-    out, _, code = asked(["read", "fetch", "4", "--json"], front + i32(fill) + bytes(fill))
-    said = json.loads(out)
-    check("fetch at the limit", (said["used"], said["body"]["responses"][0]["partitions"][0]["records"], code),
-          (1048576, {"start": len(front) + 4, "length": fill}, 0))
-    out, _, code = asked(["read", "fetch", "4", "--json"], front + i32(fill + 1) + bytes(fill + 1))
-    check("fetch over the limit", (json.loads(out)["refusal"]["number"], code), (2, 1))
-    out, _, code = asked(["read", "metadata", "0", "--json"], i32(3000) + (i32(1) + string("") + i32(2)) * 3000 + i32(0))
-    check("more brokers than there is room for", (json.loads(out)["refusal"], code),
-          ({"number": 10, "means": "there is too little room", "place": 0, "need": 3000}, 1))
+    partition = {"partition_index": 0, "error_code": 0, "high_watermark": 1, "last_stable_offset": 1, "aborted_transactions": [],
+                 "records": {"start": len(front) + 4, "length": fill}}
+    said, code = told(["read", "fetch", "4"], front + i32(fill) + bytes(fill))
+    check("fetch at the limit", (said.get("used"), said.get("body"), code),
+          (1048576, {"throttle_time_ms": 0, "responses": [{"topic": "t", "partitions": [partition]}]}, 0))
+    for more in (1, 3000000):
+        body = front + i32(fill + more) + bytes(fill + more)
+        for words in (["read", "fetch", "4"], ["read", "metadata", "4"], ["agree", "3"], ["host", "1", "4"]):
+            said, code = told(words, body)
+            check(f"{words}, {more} over the limit", (said.get("refusal"), code),
+                  ({"number": 2, "means": "the message has more than 1,048,576 bytes", "place": 0, "need": 0}, 1))
+
+
+def large():
+    """Bodies of nearly the most bytes, filled with rows of each table."""
+    partition = {"error_code": 0, "partition_index": 7, "leader_id": 1, "replica_nodes": [1, 2], "isr_nodes": [2]}
+    topic = {"error_code": 0, "name": "", "is_internal": False, "partitions": [partition]}
+    cluster = {"throttle_time_ms": 0, "brokers": [{"node_id": i, "host": "", "port": 9, "rack": None} for i in range(20000)],
+               "cluster_id": None, "controller_id": 1, "topics": [topic] * 20000}
+    replicated = dict(cluster, brokers=[], topics=[dict(topic, partitions=[dict(partition, replica_nodes=[5] * 130000, isr_nodes=[6] * 130000)])])
+    broker = {"node_id": 1, "host": "", "port": 2}
+    aborting = {"partition_index": 3, "error_code": 0, "high_watermark": 9, "last_stable_offset": 7,
+                "aborted_transactions": [{"producer_id": 42, "first_offset": 6}] * 5}
+    offered = i16(0) + i32(174761) + (i16(5) + i16(0) + i16(9)) * 174760 + i16(3) + i16(0) + i16(12)
+    for what, words, body, wanted in (
+            ("20,000 brokers, topics and partitions", ["read", "metadata", "4"], metadata(cluster), cluster),
+            ("130,000 replicas, and as many in sync", ["read", "metadata", "4"], metadata(replicated), replicated),
+            ("104,856 brokers", ["read", "metadata", "0"], i32(104856) + (i32(1) + string("") + i32(2)) * 104856 + i32(0), {"brokers": [broker] * 104856, "topics": []}),
+            ("131,071 topics", ["read", "metadata", "0"], i32(0) + i32(131071) + (i16(3) + string("") + i32(0)) * 131071,
+             {"brokers": [], "topics": [{"error_code": 3, "name": "", "partitions": []}] * 131071}),
+            ("174,762 Fetch topics", ["read", "fetch", "0"], i32(174762) + (string("") + i32(0)) * 174762, {"responses": [{"topic": "", "partitions": []}] * 174762}),
+            ("9,500 Fetch partitions, each with 5 aborted transactions", ["read", "fetch", "4"],
+             i32(0) + i32(1) + string("t") + i32(9500) + (i32(3) + i16(0) + i64(9) + i64(7) + i32(5) + (i64(42) + i64(6)) * 5 + i32(0)) * 9500,
+             {"throttle_time_ms": 0, "responses": [{"topic": "t", "partitions": [dict(aborting, records={"start": 15 + 110 * (i + 1), "length": 0}) for i in range(9500)]}]}),
+            ("174,761 APIs", ["whole", "0"], offered, {"error_code": 0, "api_keys": [{"api_key": 5, "min_version": 0, "max_version": 9}] * 174760
+                                                      + [{"api_key": 3, "min_version": 0, "max_version": 12}]}),
+            ("agreement on the last of 174,761 APIs", ["agree", "0"], offered, {"agreed": [
+                {"api_key": 18, "api": "ApiVersions", "version": None, "broker_maximum": None}, {"api_key": 3, "api": "Metadata", "version": 4, "broker_maximum": 12},
+                {"api_key": 1, "api": "Fetch", "version": None, "broker_maximum": None}]}),
+            ("524,283 tags", ["whole", "3"], i16(0) + varint(1) + i32(0) + varint(524283) + bytes([1, 0]) + bytes([2, 0]) * 524282,
+             {"error_code": 0, "api_keys": [], "throttle_time_ms": 0, "_tagged_fields": [{"tag": 1, "data": ""}] + [{"tag": 2, "data": ""}] * 524282})):
+        said, code = told(words, body)
+        check(what, (said.get("body") == wanted, code), (True, 0))
+    out, _, code = asked(["host", "19999", "4"], metadata(cluster))
+    check("the last of 20,000 brokers", (out, code), ('host of node 19999, metadata version 4: ""\n', 0))
+    out, _, code = asked(["read", "metadata", "0"], i32(3000) + (i32(1) + string("") + i32(2)) * 3000 + i32(0))
+    check("3,000 brokers as lines", (out.splitlines(), code),
+          (["metadata version 0: accepted, 30008 of 30008 bytes used", "brokers: 3000", *['  node_id 1, host "", port 2'] * 3000, "topics: []"], 0))
 
 
 def forms():
-    """Hex, raw bytes, and an input that could be either."""
-    for what, words, body, used in (("hex", [], b"0000 00000000\n", 6), ("raw", [], bytes(6), 6), ("raw digits", ["--raw"], b"0000" + bytes(4), 6)):
-        out, _, _ = asked(["read", "api-versions", "0", "--json", *words], body)
-        said = json.loads(out)
-        check(what, said.get("used", said.get("refusal", {}).get("number")), 3 if what == "raw digits" else used)
-    check("hex that is none", asked(["whole", "0", "--hex"], b"0g")[2], 2)
+    """What is read as hex, what as raw bytes, and what as neither."""
+    empty = b"000000000000"
+    hexes = {"spaces and lines": b"00 00\r\n\t0000 0000\n", "capitals": b"00AB 0000 0000", "comments": b"# dashes -- and 0x in it\n0000#00\n00000000",
+             "a comment in Latin-1": b"0000 # Flugger\xe4t\n00000000\n", "a mark of UTF-8": b"\xef\xbb\xbf" + empty, "a zero in front of longer pieces": b"0000 00000000"}
+    for what, given in hexes.items():
+        check(what, told(["read", "api-versions", "0"], given)[0].get("used"), 6)
+    for what, words, given, used in (("raw bytes", [], bytes(6), 6), ("raw bytes with digits in front", [], b"00" + bytes(4), 6),
+                                     ("an offset that is none", ["--hex"], b"0000 00 00 00 00", 6), ("nothing", [], b"", None), ("a comment alone", [], b"# 00", None)):
+        said, code = told(["read", "api-versions", "0", *words], given)
+        check(what, (said.get("used"), code), (used, 1 if used is None else 0))
+    out, _, code = asked(["read", "api-versions-request", "0", "--raw"], b"broker-2")
+    check("text that is raw bytes", (out.partition("\n")[0], code), ("api-versions-request version 0: accepted, 0 of 8 bytes used", 0))
+    for what, words, given, seen in (
+            ("text", [], b"broker-2", "standard input, line 1, column 2: 'r' is no hex digit"),
+            ("text in UTF-8", [], "0000 – 0000".encode(), "standard input, line 1, column 6: '–' is no hex digit"),
+            ("text with DOS's end of a file", [], b"000000000000\r\n\x1a", "standard input, line 2, column 1: '\\x1a' is no hex digit"),
+            ("text in UTF-16", [], "0000".encode("utf-16"), "standard input begins as text in UTF-16 does"),
+            ("hex that is none", ["--hex"], b"0000\n 0g", "standard input, line 2, column 3: 'g' is no hex digit"),
+            ("raw bytes said to be hex", ["--hex"], bytes(6), "standard input, line 1, column 1: '\\x00' is no hex digit"),
+            ("an odd number of digits", [], b"000", "standard input, line 1, column 1: an odd number of hex digits together (3), and a byte has two"),
+            ("a byte on two lines", [], b"00000\n0000000\n", "standard input, line 1, column 1: an odd number of hex digits together (5), and a byte has two"),
+            ("a dump of tcpdump", [], b"\t0x0000:  0000 0000 0000", "standard input, line 1, column 3: 'x' is no hex digit"),
+            ("a dump over two lines", [], b"0000  0000 0000\n0004  0000", "standard input, line 1, column 1: the line begins with an offset, the number of bytes before it")):
+        out, err, code = asked(["read", "api-versions", "0", *words], given)
+        check(what, (out, err.partition("\n")[0], code), ("", "befrolan: " + seen, 2))
+
+
+def frames():
+    """A frame is told by its size alone: one more byte or one fewer, and it is none. No body of zeros is one."""
+    body = i16(0) + i32(1) + i16(18) + i16(0) + i16(3)
+    for size, code in ((len(body) + 4, 2), (len(body) + 3, 1), (len(body) + 5, 1)):
+        check(f"a frame of size {size}", asked(["whole", "0"], i32(size) + i32(7) + body)[2], code)
+    check("a size and a correlation id alone", asked(["read", "metadata", "4"], i32(4) + i32(7))[2], 2)
+    for zeros in (4, 8, 12, 18):
+        check(f"{zeros} zeros", asked(["read", "fetch", "0"], bytes(zeros))[2], 0)
 
 
 def usage():
     for words in ([], ["read"], ["read", "fetch"], ["read", "produce", "1"], ["read", "fetch", "x"], ["read", "fetch", "9223372036854775808"], ["whole"],
                   ["whole", "1", "no-such-file"], ["host", "1"], ["host", "3000000000", "1"], ["night", "1"], ["agree", "1", "--yaml"],
-                  ["whole", "1", "--raw", "--hex"], ["wholes", "1"]):
+                  ["whole", "1", "--raw", "--hex"], ["whole", "1", "--frame"], ["--body"], ["wholes", "1"], ["agree", "1", "a", "b"], ["host", "x", "1"]):
         out, err, code = asked(words)
         check(f"usage of {words}", (out, "usage: ./befrolan" in err, code), ("", True, 2))
 
@@ -140,8 +215,8 @@ def versions():
     """A version that no message has is asked for and refused, however far it is outside."""
     for version in ("40000", "65536", "-65536", str(2**63 - 1), str(-(2**63))):
         for words in (["read", "api-versions"], ["whole"], ["agree"], ["read", "api-versions-request"], ["read", "metadata"], ["host", "1"], ["read", "fetch"]):
-            out, _, code = asked([*words, version, "--json"], bytes(8))
-            check(f"{words} at {version}", (json.loads(out)["refusal"], code),
+            said, code = told([*words, version], bytes(8))
+            check(f"{words} at {version}", (said.get("refusal"), code),
                   ({"number": 1, "means": "the message has no such version", "place": 0, "need": 0}, 1))
 
 
@@ -150,7 +225,9 @@ def night():
     check("night", (out, code), ((ROOT / "crates/feared_night/stdout").read_text(), 0))
 
 
-for part in (stored, made, sizes, forms, usage, versions, night):
+# The first question has what it needs built, and says so.
+asked(["read", "api-versions", "0"], bytes(6))
+for part in (stored, made, sizes, large, forms, frames, usage, versions, night):
     part()
 print(f"desk: {tried} checks, {len(wrong)} wrong")
 sys.exit(1 if wrong else 0)
