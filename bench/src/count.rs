@@ -1,5 +1,6 @@
 //! The exact number of x86-64 instructions that a closure runs: the processor traps behind each one, and the traps are counted.
-//! The number is the same on every machine. Code that allocates moves by a few hundredths, as the allocator's state does.
+//! The number is the same on every machine, and under an emulator that has the trap flag. Code that allocates moves by a few hundredths, as the
+//! allocator's state does.
 
 use std::arch::asm;
 use std::sync::atomic::{AtomicU64, Ordering};
