@@ -1,10 +1,8 @@
 /* Befrolan: bodies of Kafka messages, read from bytes and written to bytes. The C interface.
  *
  * The functions hold no state, allocate nothing and keep no pointer. Every answer is numbers, in a struct where there are
- * several. Each function's promise, which the prover has checked, stands at its definition: crates/gateway/src, for the
- * bodies of a message crates/gateway_api_versions/src, crates/gateway_metadata/src and crates/gateway_fetch/src, and
- * crates/gateway_agreement/src and crates/gateway_text/src. All of them are linked from target/staticlib/libbefrolan.a,
- * which tools/staticlib makes.
+ * several. Each function's promise, which the prover has checked, stands at its definition, in the crates whose names begin
+ * with `gateway_`. All of them are linked from target/staticlib/libbefrolan.a, which tools/staticlib makes.
  *
  * Slices. A slice is two parameters: a pointer, and how many elements there are. Where the length is 0 the pointer may be
  * null: nothing is read or written through it.
@@ -55,8 +53,8 @@ enum {
     BEFROLAN_NULL_ITEMS = 8,        /* null items in a whole read. The count's start */
     BEFROLAN_BYTES_LEFT = 9,        /* bytes left over in a whole read. The first of them */
     BEFROLAN_NO_ROOM = 10,          /* a table or the output is too small; `need` tells the rows or bytes needed. Place 0 */
-    BEFROLAN_TOO_WIDE = 11,         /* a number that its type cannot hold; a text or data too long for its length; an
-                                       isolation level other than 0 or 1. Its start */
+    BEFROLAN_TOO_WIDE = 11,         /* a number that its type cannot hold; a STRING or NULLABLE_STRING to write over 32,767
+                                       bytes; an isolation level other than 0 or 1. Its start */
     BEFROLAN_GROUP_TOO_WIDE = 12,   /* kept from the ported code; no call gives it */
     BEFROLAN_BAD_TABLES = 13        /* counts that do not add up to the rows, or below -1, or -1 where there is neither
                                        null nor unset; a part outside the lent bytes. Place 0 */

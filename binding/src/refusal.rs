@@ -37,7 +37,7 @@ impl Refusal {
     pub const BYTES_LEFT: u8 = 9;
     /// The output is too small.
     pub const NO_ROOM: u8 = 10;
-    /// A number that its field cannot hold, or a text too long for its length.
+    /// A number that its field cannot hold, or a STRING or NULLABLE_STRING over 32,767 bytes.
     pub const TOO_WIDE: u8 = 11;
     /// Rows or ranges that contradict each other.
     pub const BAD_TABLES: u8 = 13;
@@ -60,7 +60,7 @@ const WORDS: [&str; 14] = [
     "the items are null, and the body was read whole",
     "bytes are left over, and the body was read whole",
     "there is too little room",
-    "a number, text or count does not fit its field",
+    "a number or text does not fit its field",
     "a group of seven bits does not fit a byte",
     "counts or ranges contradict what was lent",
 ];

@@ -1,6 +1,9 @@
 /* The text check; and the primitives and tagged fields, each by itself, read and written. */
 #include "lent.h"
 
+#include <stdio.h>
+#include <stdlib.h>
+
 /* ---- texts */
 
 #define GOOD(n, ...) CHECK(befrolan_well_formed(B(__VA_ARGS__), LEN(__VA_ARGS__)) == (n))
@@ -148,10 +151,33 @@ static void numbers_written(void)
     PUT(BEFROLAN_VARLONG, 0, INT64_MIN, none, 0, 0xff, 0xff, 0xff, 0xff, 0xff, 0xff, 0xff, 0xff, 0xff, 1);
     PUT(BEFROLAN_ARRAY, 0, 3, none, 0, 0, 0, 0, 3);
     PUT(BEFROLAN_ARRAY, 1, 3, none, 0, 0xff, 0xff, 0xff, 0xff);
+    PUT(BEFROLAN_ARRAY, 0, 2147483647, none, 0, MOST32);
+    CHECK(not_written(put(64, BEFROLAN_ARRAY, 0, INT64_C(2147483648), none, 0), 2, 0));
+    CHECK(not_written(put(64, BEFROLAN_ARRAY, 0, INT64_C(4294967296), none, 0), 2, 0));
+    CHECK(not_written(put(64, BEFROLAN_ARRAY, 0, -1, none, 0), 2, 0));
     PUT(BEFROLAN_COMPACT_ARRAY, 0, 299, none, 0, 0xac, 2);
+    PUT(BEFROLAN_COMPACT_ARRAY, 0, INT64_C(2147483648), none, 0, 0x81, 0x80, 0x80, 0x80, 8);
+    PUT(BEFROLAN_COMPACT_ARRAY, 0, -2, none, 0, 0xff, 0xff, 0xff, 0xff, 0xff, 0xff, 0xff, 0xff, 0xff, 1);
+    CHECK(not_written(put(64, BEFROLAN_COMPACT_ARRAY, 0, -1, none, 0), 2, 0));
     PUT(BEFROLAN_COMPACT_ARRAY, UINT64_C(1) << 63, 2, none, 0, 0);
     CHECK(not_written(put(64, 18, 0, 0, none, 0), 1, 0));
     CHECK(not_written(put(64, UINT64_MAX, 0, 0, none, 0), 1, 0));
+}
+
+/* Data of 2^31 bytes, which an Int32 length cannot carry: over the limit, and not looked at. */
+static void huge_data(void)
+{
+    const size_t n = (size_t)1 << 31;
+    uint8_t *data = calloc(n, 1);
+    if (data == NULL) {
+        puts("calls: 2^31 bytes cannot be had here; four checks are left out");
+        return;
+    }
+    CHECK(not_written(put(64, BEFROLAN_BYTES, 0, 0, data, n), 2, 0));
+    CHECK(not_written(put(64, BEFROLAN_NULLABLE_BYTES, 0, 0, data, n), 2, 0));
+    CHECK(not_written(put(64, BEFROLAN_RECORDS, 0, 0, data, n), 2, 0));
+    CHECK(not_written(put(64, BEFROLAN_COMPACT_BYTES, 0, 0, data, n), 2, 0));
+    free(data);
 }
 
 static void parts_written(void)
@@ -229,5 +255,6 @@ void primitives(void)
     primitives_read();
     numbers_written();
     parts_written();
+    huge_data();
     tagged_fields();
 }

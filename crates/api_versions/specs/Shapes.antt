@@ -1,5 +1,5 @@
 -- The response's layout at a version, by what sets the versions apart: t, whether it has a throttle time (from 1 on), and f, whether it is flexible (3).
--- Laws about values go into these shapes; what code promises names them shut, below.
+-- Laws about values, and what writers promise, go into these shapes; what readers promise names them shut, below.
 use mathlib.Core.Bool.{Bool, false, true}
 use mathlib.Core.List.{[], _∷_}
 use Rattle.layout.specs.Primitives.{w16, w32}

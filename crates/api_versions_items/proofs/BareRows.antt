@@ -1,12 +1,12 @@
 -- An item without tags whose bytes are there: its numbers are read, its row is stored or passed over, and the byte behind them is 0.
 use mathlib.Core.Bool.{Bool, false, true}
 use mathlib.Core.List.{List, [], _∷_}
-use mathlib.Core.Path.{_∙_, _≡_, ap, refl, sym}
+use mathlib.Core.Path.{_∙_, _≡_, ap, refl, subst, sym}
 use Prim.Native.Nat.{_+_, _-_, _<_, _≤_, suc, zero, ℕ}
 use native.Mathlib.Omega.{arith}
 use lib.Dec.{eqb}
 use lib.ListN.{drop, getD, length, length-drop, take}
-use lib.Seq.{drop-drop, length-take-le, take-take}
+use lib.Seq.{drop-drop, getD-drop, length-take-le, take-all, take-take}
 use Rattle.layout.specs.Reading.{Res, ok}
 use Rattle.layout.specs.Primitives.{be, cellOf, signed, w16}
 use Rattle.layout.specs.Read.{byPlace, read}
@@ -74,8 +74,14 @@ module _ (s : List ℕ) (p : ℕ) (h : p + 6 ≤ length s) where
     pub bare-never : {X : Type 0} (e : Code.Refusal) → r ≡ Key.Refused e → X
     bare-never e i = not-ok (ap ofKey (sym i) ∙ d ∙ on-part)
 
-pub is-bare : (f : Bool) (s : List ℕ) (p : ℕ) → f ≡ true → p + 6 < length s → IsBare f s p (eqb (getD s (p + 6) 0) 0)
+is-bare : (f : Bool) (s : List ℕ) (p : ℕ) → f ≡ true → p + 6 < length s → IsBare f s p (eqb (getD s (p + 6) 0) 0)
 is-bare f s p e h = record { flexible = λ r. e; whole = λ r. h; empty = λ r. of-eq _ _ r }
+
+-- looked at on the rest as code cuts it out
+pub is-bare-cut : (f : Bool) (s : List ℕ) (p : ℕ) → f ≡ true → p + 6 < length s → IsBare f s p (eqb (getD (take (length s - p) (drop p s)) 6 0) 0)
+is-bare-cut f s p e h =
+    let a : getD (take (length s - p) (drop p s)) 6 0 ≡ getD s (p + 6) 0 = ap (λ (t : List ℕ). getD t 6 0) (take-all (length s - p) (drop p s) (omega (arith, length-drop p s))) ∙ getD-drop p s 6 0 in
+    subst (λ (n : ℕ). IsBare f s p (eqb n 0)) (sym a) (is-bare f s p e h)
 
 pub not-bare : (f : Bool) (s : List ℕ) (p : ℕ) → IsBare f s p false
 not-bare f s p = record { flexible = λ r. never r; whole = λ r. never r; empty = λ r. never r }

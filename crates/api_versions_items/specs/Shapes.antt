@@ -1,5 +1,5 @@
 -- The layout of a response's items at a version, by what sets the versions apart: f, whether it is flexible (3).
--- Laws about values go into these shapes; what code promises names them shut, below.
+-- Laws about values, and what writers promise, go into these shapes; what readers promise names them shut, below.
 use mathlib.Core.Bool.{Bool, false, true}
 use Prim.Native.Nat.{ℕ}
 use Rattle.layout.specs.Primitives.{plain, w16}

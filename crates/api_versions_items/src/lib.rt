@@ -91,7 +91,8 @@ fn is_bare(s: &[u8], p: usize, flexible: bool) -> bool
 {
     if flexible {
         if p < less(s.len(), 6) {
-            return s[p + 6] == 0;
+            let rest = &s[p..];
+            return rest[6] == 0;
         }
     }
     false

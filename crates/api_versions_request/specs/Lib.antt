@@ -2,5 +2,5 @@
 pub mod Answers
 -- what the walk over a request says
 pub mod Walks
--- a request to write, field by field
-pub mod Parts
+-- the layout of a version
+pub mod Shapes

@@ -1,18 +1,18 @@
 -- 11 of a response: the numbers of a row, of all rows, and of the whole.
-use mathlib.Core.Bool.{Bool, _&&_, and-false, and-true, false, true}
+use mathlib.Core.Bool.{Bool, _&&_, and-false, and-true, cond, false, true}
 use mathlib.Core.List.{List, [], _∷_}
 use mathlib.Core.Path.{_∙_, _≡_, ap, sym}
 use Prim.Native.Nat.{_*_, _+_, _/_, _<_, ℕ}
 use native.Mathlib.Nat.{add-zero}
 use lib.Dec.{lit<, ltb}
 use lib.ListN.{getD, length}
-use Rattle.layout.specs.Primitives.{holds, limit, w16}
+use Rattle.layout.specs.Primitives.{holds, w16, w32}
 use Rattle.layout.specs.Tables.{all, rowsOf}
 use Rattle.layout.specs.Write.{unless}
 use Rattle.rows.proofs.Chunks.{row-cell}
 use Rattle.writers.specs.Answers.{within}
 use Rattle.layout.specs.Rows as Rows
-use Rattle.api_versions_written.specs.Responses.{responseFault, responseGood, responseHolds, rowHolds, throttleHolds}
+use Rattle.api_versions_written.specs.Judged.{isCarried, rowHolds}
 
 -- ---- the three numbers of a row
 
@@ -39,57 +39,44 @@ row-told items i h b e =
 
 -- ---- the whole
 
-module _ (t f : Bool) (n : ℕ) where
-  pub throttle-there : t ≡ true → (b : Bool) → b ≡ within 2147483648 n → b ≡ throttleHolds t n
-  unfolding throttleHolds holds within
+module _ (t : Bool) (n : ℕ) where
+  pub throttle-there : t ≡ true → (b : Bool) → b ≡ within 2147483648 n → b ≡ cond t (holds w32 n) true
+  unfolding holds within
   throttle-there h b e = e ∙ sym (rw h)
 
-  pub throttle-lacking : t ≡ false → true ≡ throttleHolds t n
-  unfolding throttleHolds
+  pub throttle-lacking : t ≡ false → true ≡ cond t (holds w32 n) true
   throttle-lacking h = sym (rw h)
 
-  -- n items
-  pub countable-compact : f ≡ true → ltb n 18446744073709551615 ≡ ltb n (limit (Rows.items f))
-  countable-compact h = sym (rw h)
-
-  pub countable-fixed : f ≡ false → ltb n 2147483648 ≡ ltb n (limit (Rows.items f))
-  countable-fixed h = sym (rw h)
-
-module _ (t f : Bool) (error n : ℕ) (items : List ℕ) where
-  pub error-wide : (a : Bool) → a ≡ within 32768 error → a ≡ false → false ≡ responseHolds t f error n items
-  unfolding responseHolds holds within
-  error-wide a e k = sym (ap (λ (x : Bool). x && ((ltb (length items / 4) (limit (Rows.items f)) && all rowHolds (rowsOf 4 items)) && throttleHolds t n)) (sym e ∙ k))
+module _ (t : Bool) (error n : ℕ) (items : List ℕ) where
+  pub error-wide : (a : Bool) → a ≡ within 32768 error → a ≡ false → false ≡ isCarried t error n items
+  unfolding isCarried holds within
+  error-wide a e k = sym (ap (λ (x : Bool). x && (all rowHolds (rowsOf 4 items) && cond t (holds w32 n) true)) (sym e ∙ k))
 
   module _ (a : Bool) (i : a ≡ within 32768 error) (j : a ≡ true) where
     holds-error : holds w16 error ≡ true
     unfolding holds within
     holds-error = sym i ∙ j
 
-    pub items-many : (b : Bool) → b ≡ ltb (length items / 4) (limit (Rows.items f)) → b ≡ false → false ≡ responseHolds t f error n items
-    unfolding responseHolds
-    items-many b e k = sym (rw (holds-error, ← e, k))
+    module _ (c : Bool) (l : c ≡ cond t (holds w32 n) true) where
+      pub throttle-wide : c ≡ false → false ≡ isCarried t error n items
+      unfolding isCarried
+      throttle-wide m = sym (rw (holds-error, ← l, m) (and-false (all rowHolds (rowsOf 4 items))))
 
-    module _ (b : Bool) (e : b ≡ ltb (length items / 4) (limit (Rows.items f))) (k : b ≡ true) (c : Bool) (l : c ≡ throttleHolds t n) where
-      pub throttle-wide : c ≡ false → false ≡ responseHolds t f error n items
-      unfolding responseHolds
-      throttle-wide m = sym (rw (holds-error, ← l, m) (and-false (ltb (length items / 4) (limit (Rows.items f)) && all rowHolds (rowsOf 4 items))))
-
-      pub response-last : c ≡ true → (r : Bool) → r ≡ all rowHolds (rowsOf 4 items) → r ≡ responseHolds t f error n items
-      unfolding responseHolds
-      response-last m r o = o ∙ sym (rw (holds-error, ← l, m, ← e, k) (and-true (all rowHolds (rowsOf 4 items))))
+      pub response-last : c ≡ true → (r : Bool) → r ≡ all rowHolds (rowsOf 4 items) → r ≡ isCarried t error n items
+      unfolding isCarried
+      response-last m r o = o ∙ sym (rw (holds-error, ← l, m) (and-true (all rowHolds (rowsOf 4 items))))
 
 -- ---- 13, 11 or neither
 
-module _ (t f : Bool) (size error c n own : ℕ) (items tags : List ℕ) where
-  pub fault-bad : (a : Bool) → a ≡ responseGood size c own items tags → a ≡ false → 13 ≡ responseFault t f size error c n own items tags
-  unfolding responseFault
+module _ (g b : Bool) where
+  pub fault-bad : (a : Bool) → a ≡ g → a ≡ false → 13 ≡ cond g (unless b 11) 13
   fault-bad a e h = sym (rw (← e, h))
 
-  module _ (a : Bool) (e : a ≡ responseGood size c own items tags) (h : a ≡ true) (b : Bool) (i : b ≡ responseHolds t f error n items) where
-    pub fault-wide : b ≡ false → 11 ≡ responseFault t f size error c n own items tags
-    unfolding responseFault unless
+  module _ (a : Bool) (e : a ≡ g) (h : a ≡ true) (x : Bool) (i : x ≡ b) where
+    pub fault-wide : x ≡ false → 11 ≡ cond g (unless b 11) 13
+    unfolding unless
     fault-wide k = sym (rw (← e, h, ← i, k))
 
-    pub fault-none : b ≡ true → 0 ≡ responseFault t f size error c n own items tags
-    unfolding responseFault unless
+    pub fault-none : x ≡ true → 0 ≡ cond g (unless b 11) 13
+    unfolding unless
     fault-none k = sym (rw (← e, h, ← i, k))

@@ -1,66 +1,134 @@
--- The items of a response: what the definition takes from the tables for each, its bytes, and the loop over them.
-use mathlib.Core.Bool.{Bool, false, true}
-use mathlib.Core.List.{List, [], _++_, _∷_, append-assoc, append-nil, map}
-use mathlib.Core.Path.{_∙_, _≡_, ap, refl, sym}
-use Prim.Native.Nat.{_*_, _+_, _-_, _<_, _≤_, min, ℕ}
+-- An item of a response, the first row of `items` with the first rows of `tags`: what it takes of the tables, its bytes, its first fault, and the loop over items.
+use mathlib.Core.Bool.{Bool, _&&_, cond, false, true}
+use mathlib.Core.List.{List, [], _++_, _∷_, append-nil}
+use mathlib.Core.Path.{_∙_, _≡_, ap, ap₂, refl, sym}
+use Prim.Native.Nat.{_*_, _+_, _-_, _/_, _<_, _^_, _≤_, min, suc, zero, ℕ}
 use native.Mathlib.Omega.{arith}
 use lib.Dec.{lit<}
 use lib.ListN.{drop, getD, length, take}
-use lib.Seq.{getD-take}
+use lib.Seq.{getD-drop, getD-take}
 use borrow.Rule.Slice.PartMut.{midOf, putMid}
-use Rattle.layout.specs.Primitives.{bytes, plain, sizedBytes}
+use Rattle.layout.specs.Primitives.{bytes, holds, plain, w16}
 use Rattle.layout.specs.Rows.{Value}
-use Rattle.layout.specs.Tables.{Tables, basicOf, chunks, count, itemsOf, pop, rowsOf, sum, times, valueOf, width}
-use Rattle.layout.specs.Write.{each, write, writeBasic}
+use Rattle.layout.specs.Tables.{Tables, all, basicOf, chunks, count, pop, rowWidth, rowsOf, sum, times, valueOf, width}
+use Rattle.layout.specs.Write.{basicFault, fault, firstOf, or, unless, write, writeBasic}
 use Rattle.rows.specs.Step.{Capped, cap}
-use Rattle.rows.proofs.Chunks.{rows-part}
+use Rattle.rows.specs.Writes.{bytesAt, countedBytes, faultAt, itemsBytes, itemsFault, rowBytes, rowFault, takes}
+use Rattle.rows.proofs.Capped.{capped, capped-as, capped-behind}
+use Rattle.rows.proofs.Faults.{or-none, or-unless}
+use Rattle.rows.proofs.Nested.{Nest, one, row-bytes}
 use Rattle.rows.proofs.Taking.{Taking, sum-cells, taking-end, taking-enough, taking-more, taking-start}
+use Rattle.rows.proofs.Writes.{flat-bytes, flat-fault, flat-value, joined-fault}
+use Rattle.put.specs.Put.{Put}
+use Rattle.put.proofs.Stored.{put-step}
 use Rattle.ranges.specs.Asked.{told}
-use Rattle.tags_written.proofs.Meaning.{meaning, tag, tags-bytes, tags-value}
+use Rattle.ranges.proofs.Cells.{Cells, cells-drop}
+use Rattle.ranges.proofs.Counts.{count-most}
+use Rattle.tags_written.specs.Tags.{tagShape, tagsShape}
+use Rattle.tags_written.proofs.Tags.{tag-wide, tags-clean}
 use Rattle.api_versions.specs.Shapes.{itemShape}
-use Rattle.api_versions_written.specs.Responses.{itemBytes, itemsBytes, keyBytes, tagCells, tagsPart}
-use Rattle.api_versions_written.proofs.Walk.{cells-most}
+use Rattle.api_versions_items.specs.Shapes.{keyFront}
+use Rattle.api_versions_written.specs.Judged.{rowHolds}
+
+key-wide : rowWidth keyFront ≡ 3
+unfolding rowWidth width
+key-wide = refl
+
+four-wide : rowWidth (itemShape false) ≡ 4
+unfolding rowWidth width
+four-wide = refl
+
+-- key and versions, and an array of tags
+abbrev itemNest : Nest
+itemNest = record { fields = keyFront; flat-fields = tt; before = 3; is-before = key-wide; size = plain; item = tagShape; flat-item = tt; wide = 3; is-wide = tag-wide }
+
+-- the cells of tags that the first row takes: a version without tags takes none
+abbrev pub itemCells : Bool → List ℕ → ℕ
+itemCells f items = cond f (count (getD items 3 0) * 3) 0
+
+module _ (f : Bool) (c : ℕ) where
+  pub cells-there : f ≡ true → {k : ℕ} → k ≡ count c → k * 3 ≡ cond f (count c * 3) 0
+  cells-there h e = rw h (ap (λ (n : ℕ). n * 3) e)
+
+  pub cells-lacking : f ≡ false → 0 ≡ cond f (count c * 3) 0
+  cells-lacking h = sym (rw h)
+
+pub cells-most : (f : Bool) (c : ℕ) → cond f (count c * 3) 0 ≤ count c * 3
+cells-most true c = omega arith
+cells-most false c = omega arith
+
+-- ---- key and versions
 
 module _ (lent : List ℕ) where
+  three : (a b c : ℕ) → bytes 2 a ++ (bytes 2 b ++ (bytes 2 c ++ [])) ≡ bytes 2 a ++ (bytes 2 b ++ bytes 2 c)
+  three a b c = ap (λ (x : List ℕ). bytes 2 a ++ (bytes 2 b ++ x)) (append-nil (bytes 2 c))
+
+  pub key-bytes : (r : List ℕ) → rowBytes lent keyFront r ≡ bytes 2 (getD r 0 0) ++ (bytes 2 (getD r 1 0) ++ bytes 2 (getD r 2 0))
+  unfolding rowBytes bytesAt write writeBasic valueOf pop width basicOf
+  key-bytes [] = three 0 0 0
+  key-bytes (a ∷ []) = three a 0 0
+  key-bytes (a ∷ b ∷ []) = three a b 0
+  key-bytes (a ∷ b ∷ c ∷ r) = three a b c
+
+  unless-three : (a b c : Bool) → or (unless a 11) (or (unless b 11) (or (unless c 11) 0)) ≡ unless (a && (b && c)) 11
+  unless-three a b c = ap (λ (y : ℕ). or (unless a 11) (or (unless b 11) y)) (or-none (unless c 11)) ∙ ap (or (unless a 11)) (or-unless b c 10) ∙ or-unless a (b && c) 10
+
+  key-fault : (r : List ℕ) → rowFault lent keyFront r ≡ unless (rowHolds (take 4 r)) 11
+  unfolding rowFault faultAt fault basicFault valueOf pop width basicOf rowHolds
+  key-fault [] = unless-three (holds w16 0) (holds w16 0) (holds w16 0)
+  key-fault (a ∷ []) = unless-three (holds w16 a) (holds w16 0) (holds w16 0)
+  key-fault (a ∷ b ∷ []) = unless-three (holds w16 a) (holds w16 b) (holds w16 0)
+  key-fault (a ∷ b ∷ c ∷ r) = unless-three (holds w16 a) (holds w16 b) (holds w16 c)
+
   -- ---- one item
 
-  -- the value of the first row of `items`, with the first rows of `tags`
-  abbrev pub itemMeant : (f : Bool) → List ℕ → List ℕ → Value (List ℕ) (itemShape f)
-  itemMeant true items tags = (getD items 0 0, (getD items 1 0, (getD items 2 0, (map (meaning lent) (chunks (count (getD items 3 0)) 3 tags), tt))))
-  itemMeant false items tags = (getD items 0 0, (getD items 1 0, (getD items 2 0, tt)))
+  -- an item that the version leaves without tags is no more than these
+  plain-bytes : (r : List ℕ) → rowBytes lent (itemShape false) r ≡ rowBytes lent keyFront r
+  unfolding rowBytes bytesAt write valueOf pop
+  plain-bytes r = refl
 
-  pub taken : (n : ℕ) (a b tags : List ℕ) → times n (valueOf lent tag 2) (a ∷ b ∷ tags ∷ []) ≡ (map (meaning lent) (chunks n 3 tags), a ∷ b ∷ drop (n * 3) tags ∷ [])
-  taken n a b tags = tags-value lent 2 n (a ∷ b ∷ tags ∷ []) (lit< tt)
+  plain-fault : (r : List ℕ) → rowFault lent (itemShape false) r ≡ rowFault lent keyFront r
+  unfolding rowFault faultAt fault valueOf pop
+  plain-fault r = refl
 
-  pub item-value : (f : Bool) (a items tags : List ℕ) → valueOf lent (itemShape f) 1 (a ∷ items ∷ tags ∷ []) ≡ (itemMeant f items tags, a ∷ drop 4 items ∷ drop (tagCells f (getD items 3 0)) tags ∷ [])
-  unfolding valueOf pop width basicOf itemsOf tagCells
-  item-value true a [] tags = λ i. ((0, (0, (0, (taken (count 0) a [] tags i .0, tt)))), taken (count 0) a [] tags i .1)
-  item-value true a (x ∷ []) tags = λ i. ((x, (0, (0, (taken (count 0) a [] tags i .0, tt)))), taken (count 0) a [] tags i .1)
-  item-value true a (x ∷ y ∷ []) tags = λ i. ((x, (y, (0, (taken (count 0) a [] tags i .0, tt)))), taken (count 0) a [] tags i .1)
-  item-value true a (x ∷ y ∷ z ∷ []) tags = λ i. ((x, (y, (z, (taken (count 0) a [] tags i .0, tt)))), taken (count 0) a [] tags i .1)
-  item-value true a (x ∷ y ∷ z ∷ c ∷ items) tags = λ i. ((x, (y, (z, (taken (count c) a items tags i .0, tt)))), taken (count c) a items tags i .1)
-  item-value false a [] tags = refl
-  item-value false a (x ∷ []) tags = refl
-  item-value false a (x ∷ y ∷ []) tags = refl
-  item-value false a (x ∷ y ∷ z ∷ []) tags = refl
-  item-value false a (x ∷ y ∷ z ∷ c ∷ items) tags = refl
+  abbrev itemMeant : (f : Bool) → List ℕ → List ℕ → Value (List ℕ) (itemShape f)
+  itemMeant f items tags = valueOf lent (itemShape f) 1 ([] ∷ items ∷ tags ∷ []) .0
 
-  pub item-bytes : (f : Bool) (items tags : List ℕ) → tagCells f (getD items 3 0) ≤ length tags → write (itemShape f) (itemMeant f items tags) ≡ itemBytes f lent items tags
-  unfolding write writeBasic itemBytes keyBytes tagsPart tagCells
-  item-bytes true items tags h =
-      ap (λ (x : List ℕ). bytes 2 (getD items 0 0) ++ (bytes 2 (getD items 1 0) ++ (bytes 2 (getD items 2 0) ++ x)))
-      (append-nil _ ∙ ap (λ (rs : List (List ℕ)). sizedBytes false plain (λ xs. each (write tag) xs) (map (meaning lent) rs)) (sym (rows-part (count (getD items 3 0)) 3 tags (lit< tt) h)) ∙ tags-bytes lent (take (count (getD items 3 0) * 3) tags))
-      ∙ sym (append-assoc (bytes 2 (getD items 0 0)) (bytes 2 (getD items 1 0) ++ bytes 2 (getD items 2 0)) _ ∙ ap (λ (x : List ℕ). bytes 2 (getD items 0 0) ++ x) (append-assoc (bytes 2 (getD items 1 0)) (bytes 2 (getD items 2 0)) _))
-  item-bytes false items tags h =
-      sym (append-assoc (bytes 2 (getD items 0 0)) (bytes 2 (getD items 1 0) ++ bytes 2 (getD items 2 0)) [] ∙ ap (λ (x : List ℕ). bytes 2 (getD items 0 0) ++ x) (append-assoc (bytes 2 (getD items 1 0)) (bytes 2 (getD items 2 0)) []))
+  pub item-value : (f : Bool) (own items tags : List ℕ) → valueOf lent (itemShape f) 1 (own ∷ items ∷ tags ∷ []) ≡ (itemMeant f items tags, own ∷ drop 4 items ∷ drop (itemCells f items) tags ∷ [])
+  unfolding takes
+  item-value true own items tags = one itemNest lent own items tags
+  item-value false own items tags =
+      flat-value lent (itemShape false) tt 1 (own ∷ items ∷ tags ∷ []) (lit< tt)
+      ∙ (λ i. (sym (ap (λ (x : Value (List ℕ) (itemShape false) × Tables). x .0) (flat-value lent (itemShape false) tt 1 ([] ∷ items ∷ tags ∷ []) (lit< tt))) i, own ∷ drop (four-wide i) items ∷ tags ∷ []))
+
+  pub item-bytes : (f : Bool) (items tags : List ℕ) → itemCells f items ≤ length tags → bytesAt lent (itemShape f) 1 ([] ∷ items ∷ tags ∷ []) ≡ rowBytes lent keyFront items ++ cond f (countedBytes lent tagShape plain 3 (take (itemCells f items) tags)) []
+  unfolding takes
+  item-bytes true items tags h = row-bytes lent plain tagShape tt 3 tag-wide keyFront tt 3 key-wide items tags (lit< tt) h refl
+  item-bytes false items tags h = flat-bytes lent (itemShape false) tt 1 ([] ∷ items ∷ tags ∷ []) (lit< tt) ∙ plain-bytes items ∙ sym (append-nil _)
+
+  module _ (l : length lent < 2 ^ 64) where
+    item-fault : (f : Bool) (items tags : List ℕ) → Cells items → Cells tags → faultAt lent (itemShape f) 1 ([] ∷ items ∷ tags ∷ []) ≡ unless (rowHolds (take 4 items)) 11
+    item-fault true items tags h g =
+        joined-fault lent (tagsShape 2) 1 keyFront ([] ∷ items ∷ tags ∷ [])
+        ∙ ap₂ or (flat-fault lent keyFront tt 1 ([] ∷ items ∷ tags ∷ []) (lit< tt))
+        (ap (faultAt lent (tagsShape 2) 1) (ap (λ (x : Value (List ℕ) keyFront × Tables). x .1) (flat-value lent keyFront tt 1 ([] ∷ items ∷ tags ∷ []) (lit< tt)) ∙ ap (λ (j : ℕ). [] ∷ drop j items ∷ tags ∷ []) key-wide)
+        ∙ tags-clean lent 1 2 ([] ∷ drop 3 items ∷ tags ∷ []) (λ u. omega arith) (lit< tt) (omega (arith, count-most (getD (drop 3 items) 0 0), getD-drop 3 items 0 0, h 3)) g l)
+        ∙ or-none _
+        ∙ key-fault items
+    item-fault false items tags h g = flat-fault lent (itemShape false) tt 1 ([] ∷ items ∷ tags ∷ []) (lit< tt) ∙ plain-fault items ∙ key-fault items
+
+    pub items-fault : (f : Bool) (n : ℕ) (own items tags : List ℕ) → Cells items → Cells tags → itemsFault lent (itemShape f) n 1 (own ∷ items ∷ tags ∷ []) ≡ unless (all rowHolds (chunks n 4 items)) 11
+    unfolding itemsFault faultAt times chunks all firstOf unless
+    items-fault f zero own items tags h g = refl
+    items-fault f (suc n) own items tags h g =
+        rw (item-value f own items tags) (
+        ap₂ or (item-fault f items tags h g) (items-fault f n own (drop 4 items) (drop (itemCells f items) tags) (cells-drop 4 items h) (cells-drop (itemCells f items) tags g))
+        ∙ or-unless (rowHolds (take 4 items)) (all rowHolds (chunks n 4 (drop 4 items))) 10)
 
   -- ---- the loop
 
   module _ (f : Bool) where
-    -- the cells of tags that the first row takes, and those that it tells: a version without tags takes none
-    abbrev pub itemCells : List ℕ → ℕ
-    itemCells items = tagCells f (getD items 3 0)
-
+    -- a row tells cells of tags at every version
     abbrev toldCells : List ℕ → ℕ
     toldCells items = told 3 items * 3
 
@@ -68,34 +136,46 @@ module _ (lent : List ℕ) where
     unfolding told
     told-first cs = ap (λ (c : ℕ). count c * 3) (getD-take 4 cs 3 0 (lit< tt))
 
-    told-most : (cs : List ℕ) → itemCells cs ≤ toldCells cs
+    told-most : (cs : List ℕ) → itemCells f cs ≤ toldCells cs
     unfolding told
     told-most cs = cells-most f (getD cs 3 0)
-
-    -- items taken one behind the other
-    abbrev pub oneItem : Tables → Value (List ℕ) (itemShape f) × Tables
-    oneItem = valueOf lent (itemShape f) 1
 
     module _ (items tags : List ℕ) where
       -- the first items stand there; `left` and `free` are what is left of the tables, with enough tags
       abbrev pub Going : List ℕ → ℕ → List ℕ → List ℕ → List ℕ → Type 0
-      Going = Taking 4 itemCells oneItem (itemMeant f) (item-value f) toldCells (write (itemShape f)) items tags
+      Going = Taking 4 (itemCells f) (valueOf lent (itemShape f) 1) (itemMeant f) (item-value f) toldCells (write (itemShape f)) items tags
 
       pub going-start : (d : List ℕ) → sum (told 3) (rowsOf 4 items) * 3 ≤ length tags → Going d 0 d items tags
-      going-start d h = taking-start 4 itemCells oneItem (itemMeant f) (item-value f) toldCells (write (itemShape f)) items tags d (omega (arith, sum-cells (told 3) 3 (rowsOf 4 items)))
+      going-start d h = taking-start 4 (itemCells f) (valueOf lent (itemShape f) 1) (itemMeant f) (item-value f) toldCells (write (itemShape f)) items tags d (omega (arith, sum-cells (told 3) 3 (rowsOf 4 items)))
 
       module _ {d : List ℕ} {n : ℕ} {d₁ left free : List ℕ} (a : Going d n d₁ left free) where
-        pub going-end : length left < 4 → Capped (itemsBytes f lent items tags) d n d₁
+        pub going-end : length left < 4 → Capped (itemsBytes lent (itemShape f) (length items / 4) 1 ([] ∷ items ∷ tags ∷ [])) d n d₁
         unfolding itemsBytes
-        going-end = taking-end 4 itemCells oneItem (itemMeant f) (item-value f) toldCells (write (itemShape f)) items tags (lit< tt) a
+        going-end = taking-end 4 (itemCells f) (valueOf lent (itemShape f) 1) (itemMeant f) (item-value f) toldCells (write (itemShape f)) items tags (lit< tt) a
 
         module _ (h : 4 ≤ length left) where
           pub going-enough : count (getD left 3 0) * 3 ≤ length free
           unfolding told
-          going-enough = taking-enough 4 itemCells oneItem (itemMeant f) (item-value f) toldCells (write (itemShape f)) items tags (lit< tt) a told-first told-most h
+          going-enough = taking-enough 4 (itemCells f) (valueOf lent (itemShape f) 1) (itemMeant f) (item-value f) toldCells (write (itemShape f)) items tags (lit< tt) a told-first told-most h
 
-          pub going-more : (at : ℕ) → at ≡ min n (length d₁) → {m : ℕ} {e : List ℕ} → Capped (itemBytes f lent left free) (midOf at (length d₁ - at) d₁) m e → (r : ℕ) → cap r ≡ cap (n + m) → (k : ℕ) → k ≡ tagCells f (getD left 3 0) →
+          pub going-more : (at : ℕ) → at ≡ min n (length d₁) → {m : ℕ} {e : List ℕ} → Capped (bytesAt lent (itemShape f) 1 ([] ∷ left ∷ free ∷ [])) (midOf at (length d₁ - at) d₁) m e → (r : ℕ) → cap r ≡ cap (n + m) → (k : ℕ) → k ≡ itemCells f left →
               Going d r (putMid at (length d₁ - at) d₁ e) (take (length left - 4) (drop 4 left)) (take (length free - k) (drop k free))
+          unfolding bytesAt
           going-more at i s r j k q =
-              taking-more 4 itemCells oneItem (itemMeant f) (item-value f) toldCells (write (itemShape f)) items tags (lit< tt) a told-first told-most h at i (itemBytes f lent left free)
-              (item-bytes f left free (omega (arith, cells-most f (getD left 3 0), going-enough))) s r j k q
+              taking-more 4 (itemCells f) (valueOf lent (itemShape f) 1) (itemMeant f) (item-value f) toldCells (write (itemShape f)) items tags (lit< tt) a told-first told-most h at i (bytesAt lent (itemShape f) 1 ([] ∷ left ∷ free ∷ [])) refl s r j k q
+
+-- ---- one behind the other, as calls with `&mut out[at..]` leave it
+
+-- the same key and versions, whatever else the row has
+pub key-same : (lent r : List ℕ) → rowBytes [] keyFront (getD r 0 0 ∷ getD r 1 0 ∷ getD r 2 0 ∷ []) ≡ rowBytes lent keyFront r
+key-same lent r = key-bytes [] (getD r 0 0 ∷ getD r 1 0 ∷ getD r 2 0 ∷ []) ∙ sym (key-bytes lent r)
+
+module _ {d d₁ e : List ℕ} {n m : ℕ} (at : ℕ) (h : at ≡ min n (length d₁)) (r : ℕ) (k : cap r ≡ cap (n + m)) where
+  pub key-put : (a b c : ℕ) → Put (bytes 2 a) d n d₁ → Capped (bytes 2 b ++ bytes 2 c) (midOf at (length d₁ - at) d₁) m e → Capped (rowBytes [] keyFront (a ∷ b ∷ c ∷ [])) d r (putMid at (length d₁ - at) d₁ e)
+  key-put a b c p q = capped-as (sym (key-bytes [] (a ∷ b ∷ c ∷ []))) (capped-behind (capped (put-step p)) at h q r k)
+
+  pub item-put : (f : Bool) (lent items tags : List ℕ) → count (getD items 3 0) * 3 ≤ length tags → (j : ℕ) → j ≡ itemCells f items → Capped (rowBytes [] keyFront (getD items 0 0 ∷ getD items 1 0 ∷ getD items 2 0 ∷ [])) d n d₁ →
+      Capped (cond f (countedBytes lent tagShape plain 3 (take j tags)) []) (midOf at (length d₁ - at) d₁) m e → Capped (bytesAt lent (itemShape f) 1 ([] ∷ items ∷ tags ∷ [])) d r (putMid at (length d₁ - at) d₁ e)
+  item-put f lent items tags l j i p q =
+      capped-as (sym (item-bytes lent f items tags (omega (arith, cells-most f (getD items 3 0)))))
+      (capped-behind (capped-as (key-same lent items) p) at h (capped-as (ap (λ (x : ℕ). cond f (countedBytes lent tagShape plain 3 (take x tags)) []) i) q) r k)

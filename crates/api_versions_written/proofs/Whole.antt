@@ -1,151 +1,303 @@
--- The answer to a whole response at a version that is known: 13, 11, or what is answered of its bytes.
-use mathlib.Core.Bool.{Bool, _&&_, and-true, cond, false, true}
-use mathlib.Core.List.{List, [], _++_, _∷_}
+-- A whole response part by part, each from the law of its layout: the items behind their number, what stands behind them, what is refused, and the answer to the call.
+use mathlib.Core.Bool.{Bool, _&&_, cond, false, true}
+use mathlib.Core.List.{List, [], _++_, _∷_, append-nil}
 use mathlib.Core.Path.{_∙_, _≡_, ap, ap₂, refl, sym}
-use Prim.Native.Nat.{_*_, _+_, _-_, _/_, _<_, _^_, _≤_, ℕ}
-use native.Mathlib.Nat.{add-zero}
+use Prim.Native.Nat.{_*_, _+_, _-_, _/_, _<_, _^_, _≤_, min, ℕ}
 use native.Mathlib.Omega.{arith}
-use lib.Dec.{eqb, leb, lit≤, ltb}
-use lib.IntN.{ℤ, pos}
-use lib.ListN.{drop, getD, length, length-drop}
-use lib.Seq.{getD-drop}
-use Rattle.layout.specs.Answers.{Answer, body, made, meant, offered, stored, writeAlone, writeAnswer}
+use lib.Dec.{eqb, leb, lit<, lit≤, ltb}
+use lib.IntN.{ℤ}
+use lib.ListN.{drop, getD, length, length-drop, take}
+use lib.Seq.{getD-take, take-all}
+use borrow.Rule.Slice.PartMut.{midOf, putMid}
+use Rattle.layout.specs.Answers.{Answer, writeAlone, writeAnswer}
 use Rattle.layout.specs.Messages.ApiVersions.{response}
-use Rattle.layout.specs.Primitives.{bytes, holds, lengthBytes, limit, w16}
-use Rattle.layout.specs.Reading.{bad, because}
-use Rattle.layout.specs.Tables.{Tables, addsUp, all, arrays, asked, chosen, chunks, count, from, good, goodCells, goodCount, goodRow, goodSpan, kindIn, kindOf, rowWidth, rowsAt, rowsOf, sum, times, valueOf, width}
-use Rattle.layout.specs.Write.{each, fault, or, unless, write}
-use Rattle.layout.proofs.Sums.{sum-eq, sum-zero}
-use Rattle.layout.proofs.Tests.{le-true}
-use Rattle.rows.proofs.Chunks.{rows-many}
-use Rattle.rows.proofs.Faults.{or-unless}
-use Rattle.rows.proofs.Judged.{all-eq}
-use Rattle.ranges.specs.Asked.{allRanged, ranged, told, toldGood}
+use Rattle.layout.specs.Primitives.{bytes, holds, keeps, lengthBytes, minus, plain, w16, w32}
+use Rattle.layout.specs.Rows as Rows
+use Rattle.layout.specs.Rows.{Value, end}
+use Rattle.layout.specs.Tables.{Tables, all, basicOf, chosen, chunks, count, good, itemsOf, pop, rowsOf, sum, times, valueOf, width}
+use Rattle.layout.specs.Write.{basicFault, each, fault, or, tooLong, unless, write, writeBasic}
+use Rattle.rows.specs.Step.{Capped, cap}
+use Rattle.rows.specs.Writes.{bytesAt, countedBytes, faultAt, itemsBytes, refusalOf, rowBytes}
+use Rattle.rows.proofs.Capped.{capped, capped-as, capped-behind}
+use Rattle.rows.proofs.Faults.{or-none, or-unless}
+use Rattle.rows.proofs.Step.{step-nothing}
+use Rattle.rows.proofs.Taking.{own-apart, sum-cells, taken-state}
+use Rattle.rows.proofs.Writes.{any-bytes, any-fault, joined-bytes, joined-fault}
+use Rattle.primitives.specs.Answers.{versionOf}
+use Rattle.put.specs.declared.Form.{Form}
+use Rattle.put.specs.Put.{Put, sizeOf}
+use Rattle.put.proofs.Stored.{put-step}
+use Rattle.ranges.specs.Asked.{told}
 use Rattle.ranges.proofs.Cells.{Cells, cells-drop}
-use Rattle.tags_written.proofs.Meaning.{tag-good}
-use Rattle.put.specs.Put.{sizeOf}
+use Rattle.ranges.proofs.Counts.{few-told}
+use Rattle.tags_written.specs.Tags.{tagShape}
+use Rattle.tags_written.proofs.Tags.{tags-bytes, tags-clean}
 use Rattle.versioned.specs.Cells.{given, versionedCells}
 use Rattle.versioned.specs.declared.Versioned.{Versioned}
-use Rattle.layout.specs.Rows as Rows
+use Rattle.writers.proofs.Called.{called}
 use Rattle.api_versions.proofs.Replies.{shape-is}
-use Rattle.api_versions_items.specs.Shapes.{tagsShape}
 use Rattle.api_versions.specs.Shapes.{itemShape, responseShape, throttleShape}
-use Rattle.api_versions_written.specs.Responses.{arrayBytes, endBytes, formOf, itemsBytes, ownFrom, responseBytes, responseFault, responseGood, responseHolds, restBytes, rowHolds, tagsPart, throttleHolds}
-use Rattle.primitives.specs.Answers.{versionOf}
-use Rattle.primitives.proofs.Versions.{known}
-use Rattle.api_versions_written.proofs.Good.{good-items, good-tags}
-use Rattle.api_versions_written.proofs.Meant.{cells-told, cellsOf, end-bytes, end-fault, end-value, endMeant, front-bytes, front-fault}
+use Rattle.api_versions_items.specs.Shapes.{tagsShape}
+use Rattle.api_versions_written.specs.Judged.{isCarried, rowHolds}
+use Rattle.api_versions_written.specs.Shapes.{endShape, formOf, itemsShape}
+use Rattle.api_versions_written.proofs.Good.{good-items, good-own, good-tags, is-good, judged}
+use Rattle.api_versions_written.proofs.Items.{item-value, itemCells, items-fault}
 
--- ---- 13, at every version
+-- the cells of tags that the items take
+abbrev cellsOf : Bool → List (List ℕ) → ℕ
+cellsOf f rs = sum (itemCells f) rs
 
-module _ (size error c k m own : ℕ) (items tags : List ℕ) where
-  item-good : (r : List ℕ) → (goodCount true (getD (drop 1 (drop 1 (drop 1 r))) 0 0) && true) ≡ toldGood true 3 r
-  unfolding toldGood
-  item-good r = and-true _ ∙ ap (goodCount true) (getD-drop 1 (drop 1 (drop 1 r)) 0 0 ∙ getD-drop 1 (drop 1 r) 1 0 ∙ getD-drop 1 r 2 0)
+cells-told : (rs : List (List ℕ)) → cellsOf true rs ≡ sum (told 3) rs * 3
+unfolding told
+cells-told rs = sum-cells (λ r. count (getD r 3 0)) 3 rs
 
-  item-told : (r : List ℕ) → count (getD (drop 1 (drop 1 (drop 1 r))) 0 0) + 0 ≡ told 3 r
-  unfolding told
-  item-told r = add-zero _ ∙ ap count (getD-drop 1 (drop 1 (drop 1 r)) 0 0 ∙ getD-drop 1 (drop 1 r) 1 0 ∙ getD-drop 1 r 2 0)
+never-null : (f : Bool) (c : ℕ) → (keeps (Rows.items f) && eqb c minus) ≡ false
+never-null true c = refl
+never-null false c = refl
 
-  always : (b : Bool) → cond b true true ≡ true
-  always true = refl
-  always false = refl
+module _ (lent : List ℕ) (f : Bool) (c : ℕ) (cs items tags : List ℕ) where
+  abbrev st : Tables
+  st = (c ∷ cs) ∷ items ∷ tags ∷ []
 
-  fewer : (x z u v p q : Bool) → ((x && (true && (z && true))) && ((u && (v && true)) && (p && (q && true)))) ≡ ((x && z) && ((u && v) && (p && q)))
-  fewer x z u v p q = rw (and-true z, and-true v, and-true q)
+  -- ---- the items behind their number, whatever stands behind that in the body's own row
 
-  items-add : count c + 0 + (sum (λ (r : List ℕ). 0) (rowsOf 4 items) + (sum (λ (r : List ℕ). 0) (rowsOf 3 tags) + 0)) ≡ count c
-  items-add = omega (arith, sum-zero (λ (r : List ℕ). 0) (λ r. refl) (rowsOf 4 items), sum-zero (λ (r : List ℕ). 0) (λ r. refl) (rowsOf 3 tags))
+  array-bytes : bytesAt lent (itemsShape f end) 0 st ≡ lengthBytes (Rows.items f) (count c) ++ itemsBytes lent (itemShape f) (count c) 1 ([] ∷ items ∷ tags ∷ [])
+  unfolding itemsBytes
+  array-bytes =
+      any-bytes lent (Rows.items f) (itemShape f) 0 1 st (never-null f c)
+      ∙ ap (λ (xs : List (Value (List ℕ) (itemShape f))). lengthBytes (Rows.items f) (count c) ++ each (write (itemShape f)) xs) (own-apart 4 (itemCells f) (valueOf lent (itemShape f) 1) _ (item-value lent f) (count c) cs [] items tags)
 
-  tags-add : 0 + (count own + 0) + (sum (λ (r : List ℕ). count (getD (drop 1 (drop 1 (drop 1 r))) 0 0) + 0) (rowsOf 4 items) + (sum (λ (r : List ℕ). 0) (rowsOf 3 tags) + 0)) ≡ count own + sum (told 3) (rowsOf 4 items)
-  tags-add = omega (arith, sum-eq (λ (r : List ℕ). count (getD (drop 1 (drop 1 (drop 1 r))) 0 0) + 0) (told 3) item-told (rowsOf 4 items), sum-zero (λ (r : List ℕ). 0) (λ r. refl) (rowsOf 3 tags))
+  -- the tables behind them
+  array-left : valueOf lent (itemsShape f end) 0 st .1 ≡ cs ∷ drop (count c * 4) items ∷ drop (cellsOf f (chunks (count c) 4 items)) tags ∷ []
+  unfolding valueOf pop itemsOf
+  array-left = go f
+    where
+      first : (g : Bool) (rs : List ℕ) → itemCells g (take 4 rs) ≡ itemCells g rs
+      first g rs = ap (λ (n : ℕ). cond g (count n * 3) 0) (getD-take 4 rs 3 0 (lit< tt))
 
-  is-good : good size 2 (responseShape false false) ((error ∷ c ∷ k ∷ m ∷ own ∷ []) ∷ items ∷ tags ∷ []) ≡ responseGood size c own items tags
-  unfolding good responseGood allRanged addsUp all from sum rowsAt kindOf kindIn arrays asked goodRow goodCells rowWidth width
-  is-good =
-      (λ i.
-      (goodCount false c && (always (eqb k 0) i && (goodCount true own && true)))
-      && ((all-eq (λ (r : List ℕ). goodCount true (getD (drop 1 (drop 1 (drop 1 r))) 0 0) && true) (toldGood true 3) item-good (rowsOf 4 items) i && (all-eq (λ (r : List ℕ). goodSpan size false (drop 1 r) && true) (ranged 1 size) (tag-good size) (rowsOf 3 tags) i && true))
-      && (eqb (items-add i) (rows-many 4 items i) && (eqb (tags-add i) (rows-many 3 tags i) && true))))
-      ∙ fewer (goodCount false c) (goodCount true own) (all (toldGood true 3) (rowsOf 4 items)) (all (ranged 1 size) (rowsOf 3 tags)) (eqb (count c) (length items / 4)) (eqb (count own + sum (told 3) (rowsOf 4 items)) (length tags / 3))
+      left : (g : Bool) → times (count c) (valueOf lent (itemShape g) 1) (cs ∷ items ∷ tags ∷ []) .1 ≡ cs ∷ drop (count c * 4) items ∷ drop (cellsOf g (chunks (count c) 4 items)) tags ∷ []
+      left g = taken-state 4 (itemCells g) (valueOf lent (itemShape g) 1) _ (item-value lent g) (first g) (count c) cs items tags
 
-module _ (lent : List ℕ) (l : length lent < 2 ^ 64) (error c k m own : ℕ) (items tags : List ℕ) where
-  -- the row and tables, and the throttle time
-  abbrev lentRows : Tables
-  lentRows = (error ∷ c ∷ k ∷ m ∷ own ∷ []) ∷ items ∷ tags ∷ []
+      go : (g : Bool) → valueOf lent (itemsShape g end) 0 st .1 ≡ cs ∷ drop (count c * 4) items ∷ drop (cellsOf g (chunks (count c) 4 items)) tags ∷ []
+      go true = left true
+      go false = left false
+
+-- ---- what stands behind the items: k and m are the cells of the throttle time, c that of the tags, which are rows of `table`
+
+module _ (lent : List ℕ) (k m c : ℕ) (items table : List ℕ) where
+  abbrev behind : Tables
+  behind = (c ∷ []) ∷ items ∷ table ∷ []
+
+  tags-part : (f : Bool) → (f ≡ true → count c ≡ length table / 3) → bytesAt lent (tagsShape f 2) 0 behind ≡ cond f (countedBytes lent tagShape plain 3 table) []
+  unfolding bytesAt write
+  tags-part true h = tags-bytes lent 0 2 behind (λ u. omega arith) (lit< tt) (h refl)
+  tags-part false h = refl
+
+  end-bytes : (t f : Bool) → (f ≡ true → count c ≡ length table / 3) → bytesAt lent (endShape t f) 0 ((k ∷ m ∷ c ∷ []) ∷ items ∷ table ∷ []) ≡ rowBytes [] (throttleShape t end) (k ∷ m ∷ []) ++ cond f (countedBytes lent tagShape plain 3 table) []
+  unfolding rowBytes bytesAt write valueOf pop width basicOf
+  end-bytes true f h = joined-bytes lent (tagsShape f 2) 0 (throttleShape true end) ((k ∷ m ∷ c ∷ []) ∷ items ∷ table ∷ []) ∙ ap (λ (x : List ℕ). rowBytes [] (throttleShape true end) (k ∷ m ∷ []) ++ x) (tags-part f h)
+  end-bytes false f h = joined-bytes lent (tagsShape f 2) 0 (throttleShape false end) ((k ∷ m ∷ c ∷ []) ∷ items ∷ table ∷ []) ∙ tags-part f h
 
   abbrev throttle : ℕ
   throttle = getD (chosen (0 ∷ []) (k ∷ m ∷ [])) 0 0
 
-  module _ (t f : Bool) (g : responseGood (length lent) c own items tags ≡ true) where
-    -- ---- the bytes
+  module _ (l : length lent < 2 ^ 64) (few : count c < 2 ^ 64) (cells : Cells table) where
+    tags-fault : (f : Bool) → faultAt lent (tagsShape f 2) 0 behind ≡ 0
+    unfolding faultAt fault
+    tags-fault true = tags-clean lent 0 2 behind (λ u. omega arith) (lit< tt) few cells l
+    tags-fault false = refl
 
-    abbrev rest : Bool → List ℕ
-    rest f = drop (cellsOf f (rowsOf 4 items)) tags
+    end-fault : (t f : Bool) → faultAt lent (endShape t f) 0 ((k ∷ m ∷ c ∷ []) ∷ items ∷ table ∷ []) ≡ unless (cond t (holds w32 throttle) true) 11
+    unfolding faultAt fault basicFault valueOf pop width basicOf unless
+    end-fault true f = ap (or (unless (holds w32 throttle) 11)) (tags-fault f) ∙ or-none _
+    end-fault false f = tags-fault f
 
-    own-rows : (f : Bool) → f ≡ true → count own ≡ length (rest f) / 3
-    own-rows true h = omega (arith, good-tags (length lent) c own items tags g, cells-told (rowsOf 4 items), length-drop (cellsOf true (rowsOf 4 items)) tags)
-    own-rows false h = let z : _≡_ {A = ℕ} 0 1 = cc in absurd (omega arith)
+-- ---- what stands behind the error
 
-    own-begin : (f : Bool) → endBytes t f lent throttle (rest f) ≡ endBytes t f lent throttle (drop (ownFrom own tags) tags)
-    unfolding endBytes tagsPart ownFrom
-    own-begin true = ap (λ (j : ℕ). endBytes t true lent throttle (drop j tags)) same
+-- no number of items has a fault of its own
+items-fit : (f : Bool) (n : ℕ) → tooLong (Rows.items f) n ≡ 0
+unfolding tooLong
+items-fit true n = refl
+items-fit false n = refl
+
+module _ (lent : List ℕ) (t f : Bool) (c k m own : ℕ) (items tags : List ℕ) where
+  abbrev row : Tables
+  row = (c ∷ k ∷ m ∷ own ∷ []) ∷ items ∷ tags ∷ []
+
+  -- the counts add up, as those of good tables do
+  module _ (rows : count c ≡ length items / 4) (all-told : count own + sum (told 3) (rowsOf 4 items) ≡ length tags / 3) where
+    -- the body's own tags are the last rows
+    abbrev ownTags : List ℕ
+    ownTags = drop ((length tags / 3 - count own) * 3) tags
+
+    own-left : (g : Bool) → (g ≡ true → count own ≡ length (drop (cellsOf g (rowsOf 4 items)) tags) / 3) × (cond g (countedBytes lent tagShape plain 3 (drop (cellsOf g (rowsOf 4 items)) tags)) [] ≡ cond g (countedBytes lent tagShape plain 3 ownTags) [])
+    own-left true = (
+      (λ e. omega (arith, all-told, cells-told (rowsOf 4 items), length-drop (cellsOf true (rowsOf 4 items)) tags)),
+      ap (λ (j : ℕ). countedBytes lent tagShape plain 3 (drop j tags)) same,
+    )
       where
         same : cellsOf true (rowsOf 4 items) ≡ (length tags / 3 - count own) * 3
-        same = omega (arith, cells-told (rowsOf 4 items), good-tags (length lent) c own items tags g)
-    own-begin false = refl
+        same = omega (arith, cells-told (rowsOf 4 items), all-told)
+    own-left false = ((λ e. let z : _≡_ {A = ℕ} 0 1 = cc in absurd (omega arith)), refl)
 
-    is-body : body lent lentRows (responseShape t f) ≡ responseBytes t f lent error throttle own items tags
-    unfolding body meant responseBytes restBytes arrayBytes itemsBytes rowsOf
-    is-body =
-        let n : count c ≡ length items / 4 = good-items (length lent) c own items tags g in
-        front-bytes lent l (throttleShape t (tagsShape f 2)) error c (k ∷ m ∷ own ∷ []) items tags f
-        ∙ ap₂ (λ (j : ℕ) (x : List ℕ). bytes 2 error ++ ((lengthBytes (sizeOf (formOf f)) j ++ each (write (itemShape f)) (times j (valueOf lent (itemShape f) 1) ([] ∷ items ∷ tags ∷ []) .0)) ++ x)) n
-        (ap (write (throttleShape t (tagsShape f 2))) (end-value lent l t f k m own (drop (count c * 4) items) (drop (cellsOf f (chunks (count c) 4 items)) tags))
-        ∙ ap (λ (j : ℕ). write (throttleShape t (tagsShape f 2)) (endMeant lent l t f throttle own (drop (cellsOf f (chunks j 4 items)) tags))) n
-        ∙ end-bytes lent l t f throttle own (rest f) (own-rows f)
-        ∙ own-begin f)
+    rest-bytes : bytesAt lent (itemsShape f (endShape t f)) 0 row
+        ≡ (lengthBytes (Rows.items f) (length items / 4) ++ itemsBytes lent (itemShape f) (length items / 4) 1 ([] ∷ items ∷ tags ∷ [])) ++ (rowBytes [] (throttleShape t end) (k ∷ m ∷ []) ++ cond f (countedBytes lent tagShape plain 3 ownTags) [])
+    unfolding rowsOf
+    rest-bytes =
+        joined-bytes lent (endShape t f) 0 (itemsShape f end) row
+        ∙ ap₂ (λ (x y : List ℕ). x ++ y)
+        (array-bytes lent f c (k ∷ m ∷ own ∷ []) items tags ∙ ap (λ (j : ℕ). lengthBytes (Rows.items f) j ++ itemsBytes lent (itemShape f) j 1 ([] ∷ items ∷ tags ∷ [])) rows)
+        (ap (bytesAt lent (endShape t f) 0) (array-left lent f c (k ∷ m ∷ own ∷ []) items tags)
+        ∙ ap (λ (j : ℕ). bytesAt lent (endShape t f) 0 ((k ∷ m ∷ own ∷ []) ∷ drop (count c * 4) items ∷ drop (cellsOf f (chunks j 4 items)) tags ∷ [])) rows
+        ∙ end-bytes lent k m own (drop (count c * 4) items) (drop (cellsOf f (rowsOf 4 items)) tags) t f (own-left f .0)
+        ∙ ap (λ (x : List ℕ). rowBytes [] (throttleShape t end) (k ∷ m ∷ []) ++ x) (own-left f .1))
 
-    -- ---- the first fault
+  rest-fault : length lent < 2 ^ 64 → count own < 2 ^ 64 → Cells items → Cells tags → count c ≡ length items / 4 → faultAt lent (itemsShape f (endShape t f)) 0 row
+      ≡ unless (all rowHolds (rowsOf 4 items) && cond t (holds w32 (throttle lent k m own items tags)) true) 11
+  unfolding rowsOf or
+  rest-fault l o h g rows =
+      joined-fault lent (endShape t f) 0 (itemsShape f end) row
+      ∙ ap₂ or
+      (any-fault lent (Rows.items f) (itemShape f) 0 1 row
+      ∙ ap₂ or (items-fit f (count c)) (items-fault lent l f (count c) (k ∷ m ∷ own ∷ []) items tags h g)
+      ∙ ap (λ (j : ℕ). unless (all rowHolds (chunks j 4 items)) 11) rows)
+      (ap (faultAt lent (endShape t f) 0) (array-left lent f c (k ∷ m ∷ own ∷ []) items tags)
+      ∙ end-fault lent k m own (drop (count c * 4) items) (drop (cellsOf f (chunks (count c) 4 items)) tags) l o (cells-drop (cellsOf f (chunks (count c) 4 items)) tags g) t f)
+      ∙ or-unless (all rowHolds (rowsOf 4 items)) (cond t (holds w32 (throttle lent k m own items tags)) true) 10
 
-    is-fault : Cells items → Cells tags → length tags < 2 ^ 64 → fault (responseShape t f) (meant lent lentRows (responseShape t f)) ≡ unless (responseHolds t f error throttle items) 11
-    unfolding meant responseHolds rowsOf
-    is-fault h i o =
-        let n : count c ≡ length items / 4 = good-items (length lent) c own items tags g in
-        let e : Bool = ltb (length items / 4) (limit (Rows.items f)) in
-        let a : Bool = all rowHolds (rowsOf 4 items) in
-        front-fault lent l (throttleShape t (tagsShape f 2)) error c (k ∷ m ∷ own ∷ []) items tags f h i
-        ∙ ap₂ (λ (j x : ℕ). or (unless (holds w16 error) 11) (or (or (unless (ltb j (limit (Rows.items f))) 11) (unless (all rowHolds (chunks j 4 items)) 11)) x)) n
-        (ap (fault (throttleShape t (tagsShape f 2))) (end-value lent l t f k m own (drop (count c * 4) items) (drop (cellsOf f (chunks (count c) 4 items)) tags))
-        ∙ end-fault lent l t f throttle own (drop (cellsOf f (chunks (count c) 4 items)) tags) (omega (arith, good-tags (length lent) c own items tags g)) (cells-drop (cellsOf f (chunks (count c) 4 items)) tags i))
-        ∙ ap (λ (x : ℕ). or (unless (holds w16 error) 11) (or x (unless (throttleHolds t throttle) 11))) (or-unless e a 10)
-        ∙ ap (or (unless (holds w16 error) 11)) (or-unless (e && a) (throttleHolds t throttle) 10)
-        ∙ or-unless (holds w16 error) ((e && a) && throttleHolds t throttle) 10
+  response-bytes : (error : ℕ) → bytesAt lent (responseShape t f) 0 ((error ∷ c ∷ k ∷ m ∷ own ∷ []) ∷ items ∷ tags ∷ []) ≡ bytes 2 error ++ bytesAt lent (itemsShape f (endShape t f)) 0 row
+  unfolding bytesAt write writeBasic valueOf pop width basicOf
+  response-bytes error = refl
 
-  -- ---- the answer
+  response-fault : (error : ℕ) → faultAt lent (responseShape t f) 0 ((error ∷ c ∷ k ∷ m ∷ own ∷ []) ∷ items ∷ tags ∷ []) ≡ or (unless (holds w16 error) 11) (faultAt lent (itemsShape f (endShape t f)) 0 row)
+  unfolding faultAt fault basicFault valueOf pop width basicOf
+  response-fault error = refl
 
-  answer : (v : ℕ) → v ≤ 3 → Cells items → Cells tags → length tags < 2 ^ 64 → (out : List ℕ) → writeAnswer response (pos v) lent lentRows out ≡ writeAlone (responseFault (leb 1 v) (leb 3 v) (length lent) error c throttle own items tags) (responseBytes (leb 1 v) (leb 3 v) lent error throttle own items tags) out
-  unfolding writeAnswer made writeAlone responseFault
-  answer v h i j o out =
-      rw (le-true v 3 h, shape-is v h, shape-is 0 (lit≤ tt), is-good (length lent) error c k m own items tags) (ap (stored out) (go (responseGood (length lent) c own items tags) refl))
+  -- ---- what is refused
+
+  module _ (error : ℕ) (l : length lent < 2 ^ 64) (h : Cells items) (g : Cells tags) where
+    refusal-is : refusalOf lent 2 (responseShape false false) (responseShape t f) ((error ∷ c ∷ k ∷ m ∷ own ∷ []) ∷ items ∷ tags ∷ []) ≡ cond (judged (length lent) c own items tags) (unless (isCarried t error (throttle lent k m own items tags) items) 11) 13
+    unfolding refusalOf isCarried
+    refusal-is =
+        ap (λ (b : Bool). cond b (faultAt lent (responseShape t f) 0 ((error ∷ c ∷ k ∷ m ∷ own ∷ []) ∷ items ∷ tags ∷ [])) 13) (is-good (length lent) c own items tags error k m ∙ sym (is-good (length lent) c own items tags 0 0 0))
+        ∙ go (judged (length lent) c own items tags) refl
+      where
+        go : (b : Bool) → judged (length lent) c own items tags ≡ b →
+            cond b (faultAt lent (responseShape t f) 0 ((error ∷ c ∷ k ∷ m ∷ own ∷ []) ∷ items ∷ tags ∷ [])) 13
+            ≡ cond b (unless (isCarried t error (throttle lent k m own items tags) items) 11) 13
+        go true e =
+            response-fault error
+            ∙ ap (or (unless (holds w16 error) 11)) (rest-fault l (omega (arith, good-own (length lent) c own items tags e)) h g (good-items (length lent) c own items tags e))
+            ∙ or-unless (holds w16 error) (all rowHolds (rowsOf 4 items) && cond t (holds w32 (throttle lent k m own items tags)) true) 10
+        go false e = refl
+
+-- as code judges it, the throttle time given
+pub fault-told : (lent : List ℕ) (t f : Bool) (error c n own : ℕ) (items tags : List ℕ) → length lent < 2 ^ 64 → Cells items → Cells tags → {e : ℕ} → e ≡ cond (judged (length lent) c own items tags) (unless (isCarried t error n items) 11) 13 →
+    e ≡ refusalOf lent 2 (responseShape false false) (responseShape t f) ((error ∷ c ∷ 2 ∷ n ∷ own ∷ []) ∷ items ∷ tags ∷ [])
+unfolding chosen
+fault-told lent t f error c n own items tags l h g i = i ∙ sym (refusal-is lent t f c 2 n own items tags error l h g)
+
+-- ---- one behind the other, as calls with `&mut out[at..]` leave it
+
+module _ (t : Bool) (x : ℕ) where
+  pub throttle-there : t ≡ true → {d d′ : List ℕ} {n : ℕ} → Put (bytes 4 x) d n d′ → Capped (rowBytes [] (throttleShape t end) (2 ∷ x ∷ [])) d n d′
+  unfolding rowBytes bytesAt write writeBasic valueOf pop width basicOf chosen
+  throttle-there h p = rw h (capped-as (sym (append-nil _)) (capped (put-step p)))
+
+  pub throttle-lacking : t ≡ false → (d : List ℕ) → Capped (rowBytes [] (throttleShape t end) (2 ∷ x ∷ [])) d 0 d
+  unfolding rowBytes bytesAt write valueOf
+  throttle-lacking h d = rw h (capped (step-nothing d))
+
+length-form : (f : Bool) (n : ℕ) → lengthBytes (sizeOf (formOf f)) n ≡ lengthBytes (Rows.items f) n
+unfolding lengthBytes
+length-form true n = refl
+length-form false n = refl
+
+module _ {d d₁ e : List ℕ} {n m : ℕ} (at : ℕ) (h : at ≡ min n (length d₁)) (r : ℕ) (k : cap r ≡ cap (n + m)) where
+  pub array-put : (f : Bool) (lent items tags : List ℕ) → length items < 2 ^ 64 → (o : Form) → o ≡ formOf f → Put (lengthBytes (sizeOf o) (length items / 4)) d n d₁ →
+      Capped (itemsBytes lent (itemShape f) (length items / 4) 1 ([] ∷ items ∷ tags ∷ [])) (midOf at (length d₁ - at) d₁) m e → Capped (bytesAt lent (itemsShape f end) 0 ((length items / 4 ∷ []) ∷ items ∷ tags ∷ [])) d r (putMid at (length d₁ - at) d₁ e)
+  array-put f lent items tags l o i p q =
+      capped-as
+      (sym (array-bytes lent f (length items / 4) [] items tags ∙ ap (λ (j : ℕ). lengthBytes (Rows.items f) j ++ itemsBytes lent (itemShape f) j 1 ([] ∷ items ∷ tags ∷ [])) (few-told (length items / 4) (omega arith))))
+      (capped-behind (capped-as (ap (λ (x : Form). lengthBytes (sizeOf x) (length items / 4)) i ∙ length-form f (length items / 4)) (capped (put-step p))) at h q r k)
+
+  pub end-put : (t f : Bool) (lent : List ℕ) (x : ℕ) (table : List ℕ) → length table < 2 ^ 64 → Capped (rowBytes [] (throttleShape t end) (2 ∷ x ∷ [])) d n d₁ → Capped (cond f (countedBytes lent tagShape plain 3 table) []) (midOf at (length d₁ - at) d₁) m e →
+      Capped (bytesAt lent (endShape t f) 0 ((2 ∷ x ∷ length table / 3 ∷ []) ∷ [] ∷ table ∷ [])) d r (putMid at (length d₁ - at) d₁ e)
+  end-put t f lent x table l p q = capped-as (sym (end-bytes lent 2 x (length table / 3) [] table t f (λ u. few-told (length table / 3) (omega arith)))) (capped-behind p at h q r k)
+
+  pub rest-put : (t f : Bool) (lent : List ℕ) (x own : ℕ) (items tags : List ℕ) → length items < 2 ^ 64 → length tags < 2 ^ 64 → count own + sum (told 3) (rowsOf 4 items) ≡ length tags / 3 → {i : ℕ} → i ≡ count own → (j : ℕ) → j ≡ (length tags / 3 - i) * 3 →
+      Capped (bytesAt lent (itemsShape f end) 0 ((length items / 4 ∷ []) ∷ items ∷ tags ∷ [])) d n d₁ →
+      Capped (bytesAt lent (endShape t f) 0 ((2 ∷ x ∷ length (take (length tags - j) (drop j tags)) / 3 ∷ []) ∷ [] ∷ take (length tags - j) (drop j tags) ∷ [])) (midOf at (length d₁ - at) d₁) m e →
+      Capped (bytesAt lent (itemsShape f (endShape t f)) 0 ((length items / 4 ∷ 2 ∷ x ∷ own ∷ []) ∷ items ∷ tags ∷ [])) d r (putMid at (length d₁ - at) d₁ e)
+  rest-put t f lent x own items tags l s g {i} y j z p q = capped-as (sym (rest-bytes lent t f (length items / 4) 2 x own items tags few g)) (capped-behind (capped-as front p) at h (capped-as back q) r k)
     where
-      go : (b : Bool) → responseGood (length lent) c own items tags ≡ b →
-          cond b (offered (fault (responseShape (leb 1 v) (leb 3 v)) (meant lent lentRows (responseShape (leb 1 v) (leb 3 v)))) (body lent lentRows (responseShape (leb 1 v) (leb 3 v)))) (bad (because 13 0))
-          ≡ offered (cond b (unless (responseHolds (leb 1 v) (leb 3 v) error throttle items) 11) 13) (responseBytes (leb 1 v) (leb 3 v) lent error throttle own items tags)
-      go false e = refl
-      go true e = ap₂ offered (is-fault (leb 1 v) (leb 3 v) e i j o) (is-body (leb 1 v) (leb 3 v) e)
+      few : count (length items / 4) ≡ length items / 4
+      few = few-told (length items / 4) (omega arith)
 
--- the call's promise from that of a known version
-module _ (lent : List ℕ) (error c own : ℕ) (items tags out : List ℕ) (l : length lent < 2 ^ 64) (h : Cells items) (i : Cells tags) (o : length tags < 2 ^ 64) (v : ℕ) (k : v ≤ 3) where
-  -- the answer at version v, with a throttle time of n
-  abbrev at-version : ℕ → Answer × List ℕ
-  at-version n = writeAlone (responseFault (leb 1 v) (leb 3 v) (length lent) error c n own items tags) (responseBytes (leb 1 v) (leb 3 v) lent error n own items tags) out
+      front : bytesAt lent (itemsShape f end) 0 ((length items / 4 ∷ []) ∷ items ∷ tags ∷ []) ≡ lengthBytes (Rows.items f) (length items / 4) ++ itemsBytes lent (itemShape f) (length items / 4) 1 ([] ∷ items ∷ tags ∷ [])
+      front = array-bytes lent f (length items / 4) [] items tags ∙ ap (λ (v : ℕ). lengthBytes (Rows.items f) v ++ itemsBytes lent (itemShape f) v 1 ([] ∷ items ∷ tags ∷ [])) few
 
-  by-row : (q : Versioned) → at-version (given 0 q) ≡ writeAnswer response (pos v) lent ((error ∷ c ∷ (versionedCells q ++ (own ∷ []))) ∷ items ∷ tags ∷ []) out
+      table : take (length tags - j) (drop j tags) ≡ drop ((length tags / 3 - count own) * 3) tags
+      table = take-all (length tags - j) (drop j tags) (omega (arith, length-drop j tags)) ∙ ap (λ (v : ℕ). drop v tags) (z ∙ ap (λ (v : ℕ). (length tags / 3 - v) * 3) y)
+
+      back : bytesAt lent (endShape t f) 0 ((2 ∷ x ∷ length (take (length tags - j) (drop j tags)) / 3 ∷ []) ∷ [] ∷ take (length tags - j) (drop j tags) ∷ []) ≡ rowBytes [] (throttleShape t end) (2 ∷ x ∷ []) ++ cond f (countedBytes lent tagShape plain 3 (drop ((length tags / 3 - count own) * 3) tags)) []
+      back =
+          ap (λ (v : List ℕ). bytesAt lent (endShape t f) 0 ((2 ∷ x ∷ length v / 3 ∷ []) ∷ [] ∷ v ∷ [])) table
+          ∙ end-bytes lent 2 x _ [] (drop ((length tags / 3 - count own) * 3) tags) t f (λ u. few-told _ (omega (arith, length-drop ((length tags / 3 - count own) * 3) tags)))
+
+  pub response-put : (t f : Bool) (lent : List ℕ) (error c x own : ℕ) (items tags : List ℕ) → Put (bytes 2 error) d n d₁ → Capped (bytesAt lent (itemsShape f (endShape t f)) 0 ((c ∷ 2 ∷ x ∷ own ∷ []) ∷ items ∷ tags ∷ [])) (midOf at (length d₁ - at) d₁) m e →
+      Capped (bytesAt lent (responseShape t f) 0 ((error ∷ c ∷ 2 ∷ x ∷ own ∷ []) ∷ items ∷ tags ∷ [])) d r (putMid at (length d₁ - at) d₁ e)
+  response-put t f lent error c x own items tags p q = capped-as (sym (response-bytes lent t f c 2 x own items tags error)) (capped-behind (capped (put-step p)) at h q r k)
+
+-- ---- the call's promise from that of a known version, where n is the throttle time, 0 if unset
+
+module _ (lent : List ℕ) (error c own : ℕ) (items tags out : List ℕ) (l : length lent < 2 ^ 64) (h : Cells items) (i : Cells tags) (s : length items < 2 ^ 64) (v : ℕ) (k : v ≤ 3) where
+  abbrev rows : List ℕ → Tables
+  rows cs = (error ∷ c ∷ (cs ++ (own ∷ []))) ∷ items ∷ tags ∷ []
+
+  abbrev refusal : List ℕ → ℕ
+  refusal cs = refusalOf lent 2 (responseShape false false) (responseShape (leb 1 v) (leb 3 v)) (rows cs)
+
+  same-refusal : (q : Versioned) → refusal (versionedCells q) ≡ refusal (2 ∷ given 0 q ∷ [])
   unfolding chosen
-  by-row Versioned.Absent = sym (answer lent l error c 0 0 own items tags v k h i o out)
-  by-row (Versioned.Present n) = sym (answer lent l error c 2 n own items tags v k h i o out)
+  same-refusal Versioned.Absent = refusal-is lent (leb 1 v) (leb 3 v) c 0 0 own items tags error l h i ∙ sym (refusal-is lent (leb 1 v) (leb 3 v) c 2 0 own items tags error l h i)
+  same-refusal (Versioned.Present n) = refl
 
-  pub response-written : (q : Versioned) (z : ℤ) → v ≡ versionOf z → {n : ℕ} → n ≡ given 0 q → (r : Answer × List ℕ) → r ≡ at-version n → r ≡ writeAnswer response z lent ((error ∷ c ∷ (versionedCells q ++ (own ∷ []))) ∷ items ∷ tags ∷ []) out
+  same-throttle : (t : Bool) (q : Versioned) → rowBytes [] (throttleShape t end) (versionedCells q) ≡ rowBytes [] (throttleShape t end) (2 ∷ given 0 q ∷ [])
+  unfolding rowBytes bytesAt write valueOf pop width basicOf chosen
+  same-throttle true Versioned.Absent = refl
+  same-throttle false Versioned.Absent = refl
+  same-throttle t (Versioned.Present n) = refl
+
+  same-bytes : (t f : Bool) → judged (length lent) c own items tags ≡ true → (q : Versioned) → bytesAt lent (responseShape t f) 0 (rows (versionedCells q)) ≡ bytesAt lent (responseShape t f) 0 ((error ∷ length items / 4 ∷ 2 ∷ given 0 q ∷ own ∷ []) ∷ items ∷ tags ∷ [])
+  same-bytes t f g q = go q
+    where
+      x : count c ≡ length items / 4
+      x = good-items (length lent) c own items tags g
+
+      y : count own + sum (told 3) (rowsOf 4 items) ≡ length tags / 3
+      y = good-tags (length lent) c own items tags g
+
+      set : (n : ℕ) → bytesAt lent (responseShape t f) 0 ((error ∷ length items / 4 ∷ 2 ∷ n ∷ own ∷ []) ∷ items ∷ tags ∷ []) ≡ bytes 2 error ++ ((lengthBytes (Rows.items f) (length items / 4) ++ itemsBytes lent (itemShape f) (length items / 4) 1 ([] ∷ items ∷ tags ∷ [])) ++ (rowBytes [] (throttleShape t end) (2 ∷ n ∷ []) ++ cond f (countedBytes lent tagShape plain 3 (drop ((length tags / 3 - count own) * 3) tags)) []))
+      set n = response-bytes lent t f (length items / 4) 2 n own items tags error ∙ ap (λ (z : List ℕ). bytes 2 error ++ z) (rest-bytes lent t f (length items / 4) 2 n own items tags (few-told (length items / 4) (omega arith)) y)
+
+      told-so : (k m n : ℕ) → rowBytes [] (throttleShape t end) (k ∷ m ∷ []) ≡ rowBytes [] (throttleShape t end) (2 ∷ n ∷ []) → bytesAt lent (responseShape t f) 0 ((error ∷ c ∷ k ∷ m ∷ own ∷ []) ∷ items ∷ tags ∷ []) ≡ bytesAt lent (responseShape t f) 0 ((error ∷ length items / 4 ∷ 2 ∷ n ∷ own ∷ []) ∷ items ∷ tags ∷ [])
+      told-so k m n z =
+          response-bytes lent t f c k m own items tags error
+          ∙ ap (λ (w : List ℕ). bytes 2 error ++ w) (rest-bytes lent t f c k m own items tags x y ∙ ap (λ (w : List ℕ). (lengthBytes (Rows.items f) (length items / 4) ++ itemsBytes lent (itemShape f) (length items / 4) 1 ([] ∷ items ∷ tags ∷ [])) ++ (w ++ cond f (countedBytes lent tagShape plain 3 (drop ((length tags / 3 - count own) * 3) tags)) [])) z)
+          ∙ sym (set n)
+
+      go : (q : Versioned) → bytesAt lent (responseShape t f) 0 (rows (versionedCells q)) ≡ bytesAt lent (responseShape t f) 0 ((error ∷ length items / 4 ∷ 2 ∷ given 0 q ∷ own ∷ []) ∷ items ∷ tags ∷ [])
+      go Versioned.Absent = told-so 0 0 0 (same-throttle t Versioned.Absent)
+      go (Versioned.Present n) = told-so 2 n n refl
+
+  pub response-written : (q : Versioned) (z : ℤ) → v ≡ versionOf z → {n : ℕ} → n ≡ given 0 q → (r : Answer × List ℕ) →
+      r ≡ writeAlone (refusal (2 ∷ n ∷ [])) (bytesAt lent (responseShape (leb 1 v) (leb 3 v)) 0 ((error ∷ length items / 4 ∷ 2 ∷ n ∷ own ∷ []) ∷ items ∷ tags ∷ [])) out → r ≡ writeAnswer response z lent (rows (versionedCells q)) out
   response-written q z e j r w =
-      w ∙ ap at-version j ∙ by-row q ∙ ap (λ (y : ℤ). writeAnswer response y lent ((error ∷ c ∷ (versionedCells q ++ (own ∷ []))) ∷ items ∷ tags ∷ []) out) (known response z v e k (omega arith))
+      called response z v e k (omega arith) lent (rows (versionedCells q)) out r _ _ w
+      (rw (shape-is v k, shape-is 0 (lit≤ tt)) (same-refusal q ∙ ap (λ (n : ℕ). refusal (2 ∷ n ∷ [])) (sym j)))
+      (rw (shape-is v k, shape-is 0 (lit≤ tt)) (λ g. same-bytes (leb 1 v) (leb 3 v) (rows-good q g) q ∙ ap (λ (n : ℕ). bytesAt lent (responseShape (leb 1 v) (leb 3 v)) 0 ((error ∷ length items / 4 ∷ 2 ∷ n ∷ own ∷ []) ∷ items ∷ tags ∷ [])) (sym j)))
+    where
+      rows-good : (q : Versioned) → good (length lent) 2 (responseShape false false) (rows (versionedCells q)) ≡ true → judged (length lent) c own items tags ≡ true
+      rows-good Versioned.Absent g = sym (is-good (length lent) c own items tags error 0 0 ∙ sym (is-good (length lent) c own items tags 0 0 0)) ∙ g
+      rows-good (Versioned.Present n) g = sym (is-good (length lent) c own items tags error 2 n ∙ sym (is-good (length lent) c own items tags 0 0 0)) ∙ g

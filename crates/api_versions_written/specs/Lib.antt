@@ -1,2 +1,4 @@
--- responses row by row
-pub mod Responses
+-- the layout in parts
+pub mod Shapes
+-- tests of numbers
+pub mod Judged

@@ -1,13 +1,14 @@
 // What is refused of an ApiVersions response before a byte is written: tables that do not add up, and numbers that the version cannot carry.
+ghost use mathlib.Core.Bool.{cond, false, true};
 ghost use mathlib.Core.Path.{_≡_};
 ghost use mathlib.Core.List.{[], _∷_};
-ghost use lib.Dec.{ltb};
 ghost use lib.ListN.{getD, length};
 ghost use Prim.Native.Nat.{_/_, _<_};
-ghost use Rattle.layout.specs.Primitives.{limit};
-ghost use Rattle.layout.specs.Rows as Rows;
-ghost use Rattle.layout.specs.Tables.{all, rowsOf};
-ghost use Rattle.api_versions_written.specs.Responses.{responseFault, responseGood, responseHolds, rowHolds, throttleHolds};
+ghost use Rattle.layout.specs.Primitives.{holds, w32};
+ghost use Rattle.layout.specs.Tables.{all, good, rowsOf};
+ghost use Rattle.layout.specs.Write.{unless};
+ghost use Rattle.api_versions.specs.Shapes.{responseShape};
+ghost use Rattle.api_versions_written.specs.Judged.{isCarried, rowHolds};
 use primitives::BAD_TABLES;
 use primitives::TOO_WIDE;
 use ranges::Row;
@@ -19,7 +20,7 @@ use writers::write::fits;
 // ---- 13
 
 fn is_good(size: usize, count: u64, own: u64, items: &[u64], tags: &[u64]) -> bool
-    ensures { λ r. ⌜ r ≡ responseGood size count own (now (items .entry)) (now (tags .entry)) ⌝ }
+    ensures { λ r. ⌜ r ≡ good size 2 (responseShape false false) ((0 ∷ count ∷ 0 ∷ 0 ∷ own ∷ []) ∷ now (items .entry) ∷ now (tags .entry) ∷ []) ⌝ }
 {
     if count != (items.len() / 4) as u64 {
         return false;
@@ -80,18 +81,8 @@ fn all_fit(items: &[u64]) -> bool
     true
 }
 
-// Is the number of items one that the version can carry?
-fn is_countable(flexible: bool, n: usize) -> bool
-    ensures { λ r. ⌜ r ≡ ltb n (limit (Rows.items flexible)) ⌝ }
-{
-    if flexible {
-        return n < 18446744073709551615;
-    }
-    n < 2147483648
-}
-
 fn throttle_fits(throttle: bool, n: u64) -> bool
-    ensures { λ r. ⌜ r ≡ throttleHolds throttle n ⌝ }
+    ensures { λ r. ⌜ r ≡ cond throttle (holds w32 n) true ⌝ }
 {
     if throttle {
         return fits(n, 2147483648);
@@ -99,13 +90,10 @@ fn throttle_fits(throttle: bool, n: u64) -> bool
     true
 }
 
-fn is_carried(throttle: bool, flexible: bool, error: u64, n: u64, items: &[u64]) -> bool
-    ensures { λ r. ⌜ r ≡ responseHolds throttle flexible error n (now (items .entry)) ⌝ }
+fn is_carried(throttle: bool, error: u64, n: u64, items: &[u64]) -> bool
+    ensures { λ r. ⌜ r ≡ isCarried throttle error n (now (items .entry)) ⌝ }
 {
     if !fits(error, 32768) {
-        return false;
-    }
-    if !is_countable(flexible, items.len() / 4) {
         return false;
     }
     if !throttle_fits(throttle, n) {
@@ -117,7 +105,6 @@ fn is_carried(throttle: bool, flexible: bool, error: u64, n: u64, items: &[u64])
 // 13, 11, or 0 for neither.
 pub fn refusal(
     throttle: bool,
-    flexible: bool,
     size: usize,
     items: &[u64],
     tags: &[u64],
@@ -126,12 +113,12 @@ pub fn refusal(
     n: u64,
     own: u64,
 ) -> u8
-    ensures { λ r. ⌜ r ≡ responseFault throttle flexible size error count n own (now (items .entry)) (now (tags .entry)) ⌝ }
+    ensures { λ r. ⌜ r ≡ cond (good size 2 (responseShape false false) ((0 ∷ count ∷ 0 ∷ 0 ∷ own ∷ []) ∷ now (items .entry) ∷ now (tags .entry) ∷ [])) (unless (isCarried throttle error n (now (items .entry))) 11) 13 ⌝ }
 {
     if !is_good(size, count, own, items, tags) {
         return BAD_TABLES;
     }
-    if !is_carried(throttle, flexible, error, n, items) {
+    if !is_carried(throttle, error, n, items) {
         return TOO_WIDE;
     }
     0

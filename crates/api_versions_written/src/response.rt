@@ -1,18 +1,25 @@
 // The body of an ApiVersions response, versions 0 to 3. Items are rows of four cells, tags rows of three; the items' tags come first.
 // A throttle time stands from version 1 on, tags and compact forms from version 3 on.
+ghost use mathlib.Core.Bool.{cond, false};
 ghost use mathlib.Core.Path.{_≡_};
 ghost use mathlib.Core.List.{[], _++_, _∷_};
 ghost use lib.ListN.{getD, length};
 ghost use Prim.Native.Nat.{_+_, _*_, _/_, _<_, _^_, _≤_};
 ghost use Rattle.layout.specs.Answers.{writeAlone, writeAnswer};
 ghost use Rattle.layout.specs.Messages.ApiVersions as Api;
-ghost use Rattle.layout.specs.Primitives.{bytes};
-ghost use Rattle.layout.specs.Tables.{all, count, rowsOf, sum};
+ghost use Rattle.layout.specs.Primitives.{bytes, plain};
+ghost use Rattle.layout.specs.Rows as Rows;
+ghost use Rattle.layout.specs.Tables.{count, rowsOf, sum};
+ghost use Rattle.layout.specs.Write.{each};
 ghost use Rattle.rows.specs.Step.{Capped};
+ghost use Rattle.rows.specs.Writes.{bytesAt, countedBytes, itemsBytes, refusalOf, rowBytes};
 ghost use Rattle.writers.specs.Answers.{replied};
 ghost use Rattle.ranges.specs.Asked.{told};
+ghost use Rattle.tags_written.specs.Tags.{tagShape};
 ghost use Rattle.api_versions.specs.Answers.{ofResponse};
-ghost use Rattle.api_versions_written.specs.Responses.{arrayBytes, endBytes, formOf, itemBytes, itemsBytes, keyBytes, noTags, responseBytes, responseFault, restBytes, tagCells, tagsPart, throttleBytes, untaggedBytes, untaggedItems, untaggedWidth};
+ghost use Rattle.api_versions.specs.Shapes.{itemShape, responseShape, throttleShape};
+ghost use Rattle.api_versions_items.specs.Shapes.{keyFront};
+ghost use Rattle.api_versions_written.specs.Shapes.{endShape, formOf, itemsShape, untaggedBytes};
 use crate::judge::refusal;
 use api_versions::ResponseBody;
 use primitives::MOST;
@@ -39,7 +46,7 @@ fn versions(out: &mut [u8], low: u64, high: u64) -> usize
 }
 
 fn key(out: &mut [u8], key: u64, low: u64, high: u64) -> usize
-    ensures { λ r. ⌜ Capped (keyBytes key low high) (now (out .entry)) r (now (out .exit)) ⌝ }
+    ensures { λ r. ⌜ Capped (rowBytes [] keyFront (key ∷ low ∷ high ∷ [])) (now (out .entry)) r (now (out .exit)) ⌝ }
 {
     let a = put::lowest(out, key, 2);
     let p = put::behind(a, out.len());
@@ -49,7 +56,7 @@ fn key(out: &mut [u8], key: u64, low: u64, high: u64) -> usize
 
 // Tags, where the version has them.
 fn tags_part(out: &mut [u8], flexible: bool, lent: &[u8], table: &[u64]) -> usize
-    ensures { λ r. ⌜ Capped (tagsPart flexible (now (lent .entry)) (now (table .entry))) (now (out .entry)) r (now (out .exit)) ⌝ }
+    ensures { λ r. ⌜ Capped (cond flexible (countedBytes (now (lent .entry)) tagShape plain 3 (now (table .entry))) []) (now (out .entry)) r (now (out .exit)) ⌝ }
 {
     if flexible {
         return tag_buffer(out, lent, table);
@@ -60,7 +67,7 @@ fn tags_part(out: &mut [u8], flexible: bool, lent: &[u8], table: &[u64]) -> usiz
 // The cells of tags that an item takes.
 fn tag_cells(flexible: bool, c: u64) -> usize
     requires { ⌜ count c < 2 ^ 62 ⌝ }
-    ensures { λ r. ⌜ r ≡ tagCells flexible c ⌝ }
+    ensures { λ r. ⌜ r ≡ cond flexible (count c * 3) 0 ⌝ }
 {
     if flexible {
         return rows_told(c) as usize * 3;
@@ -71,7 +78,7 @@ fn tag_cells(flexible: bool, c: u64) -> usize
 // The first row of `items`, with the first rows of `tags`.
 fn item(out: &mut [u8], flexible: bool, lent: &[u8], items: &[u64], tags: &[u64]) -> usize
     requires { ⌜ (4 ≤ length (now items)) × (count (getD (now items) 3 0) * 3 ≤ length (now tags)) ⌝ }
-    ensures { λ r. ⌜ Capped (itemBytes flexible (now (lent .entry)) (now (items .entry)) (now (tags .entry))) (now (out .entry)) r (now (out .exit)) ⌝ }
+    ensures { λ r. ⌜ Capped (bytesAt (now (lent .entry)) (itemShape flexible) 1 ([] ∷ now (items .entry) ∷ now (tags .entry) ∷ [])) (now (out .entry)) r (now (out .exit)) ⌝ }
 {
     let k = tag_cells(flexible, items[3]);
     let a = key(out, items[0], items[1], items[2]);
@@ -83,7 +90,7 @@ fn item(out: &mut [u8], flexible: bool, lent: &[u8], items: &[u64], tags: &[u64]
 // Item behind item.
 fn all_items(out: &mut [u8], flexible: bool, lent: &[u8], items: &[u64], tags: &[u64]) -> usize
     requires { ⌜ sum (told 3) (rowsOf 4 (now items)) * 3 ≤ length (now tags) ⌝ }
-    ensures { λ r. ⌜ Capped (itemsBytes flexible (now (lent .entry)) (now (items .entry)) (now (tags .entry))) (now (out .entry)) r (now (out .exit)) ⌝ }
+    ensures { λ r. ⌜ Capped (itemsBytes (now (lent .entry)) (itemShape flexible) (length (now (items .entry)) / 4) 1 ([] ∷ now (items .entry) ∷ now (tags .entry) ∷ [])) (now (out .entry)) r (now (out .exit)) ⌝ }
 {
     let mut done: usize = 0;
     let mut left = items;
@@ -102,7 +109,7 @@ fn all_items(out: &mut [u8], flexible: bool, lent: &[u8], items: &[u64], tags: &
 // ---- items without tags
 
 fn no_tags(out: &mut [u8], flexible: bool) -> usize
-    ensures { λ r. ⌜ Capped (noTags flexible) (now (out .entry)) r (now (out .exit)) ⌝ }
+    ensures { λ r. ⌜ Capped (cond flexible (0 ∷ []) []) (now (out .entry)) r (now (out .exit)) ⌝ }
 {
     if flexible {
         return put::lowest(out, 0, 1);
@@ -122,8 +129,8 @@ fn untagged_item(out: &mut [u8], flexible: bool, items: &[u64], i: usize) -> usi
 
 // Item behind item, in an output of just their size: the loop's own test tells the room of each.
 fn untagged_rows(out: &mut [u8], flexible: bool, width: usize, items: &[u64]) -> usize
-    requires { ⌜ (width ≡ untaggedWidth flexible) × (length (now out) ≡ length (now items) / 4 * width) ⌝ }
-    ensures { λ r. ⌜ Capped (untaggedItems flexible (now (items .entry))) (now (out .entry)) r (now (out .exit)) ⌝ }
+    requires { ⌜ (width ≡ cond flexible 7 6) × (length (now out) ≡ length (now items) / 4 * width) ⌝ }
+    ensures { λ r. ⌜ Capped (each (untaggedBytes flexible) (rowsOf 4 (now (items .entry)))) (now (out .entry)) r (now (out .exit)) ⌝ }
 {
     let mut p: usize = 0;
     let mut i: usize = 0;
@@ -137,8 +144,8 @@ fn untagged_rows(out: &mut [u8], flexible: bool, width: usize, items: &[u64]) ->
 
 // Rows of one width are measured by their number.
 fn items_of_width(out: &mut [u8], flexible: bool, width: usize, items: &[u64]) -> usize
-    requires { ⌜ width ≡ untaggedWidth flexible ⌝ }
-    ensures { λ r. ⌜ Capped (untaggedItems flexible (now (items .entry))) (now (out .entry)) r (now (out .exit)) ⌝ }
+    requires { ⌜ width ≡ cond flexible 7 6 ⌝ }
+    ensures { λ r. ⌜ Capped (each (untaggedBytes flexible) (rowsOf 4 (now (items .entry)))) (now (out .entry)) r (now (out .exit)) ⌝ }
 {
     let all = items.len() / 4 * width;
     if all <= out.len() {
@@ -149,7 +156,7 @@ fn items_of_width(out: &mut [u8], flexible: bool, width: usize, items: &[u64]) -
 
 // The width is told as a number, so that the loop is compiled for each.
 fn untagged_items(out: &mut [u8], flexible: bool, items: &[u64]) -> usize
-    ensures { λ r. ⌜ Capped (untaggedItems flexible (now (items .entry))) (now (out .entry)) r (now (out .exit)) ⌝ }
+    ensures { λ r. ⌜ Capped (each (untaggedBytes flexible) (rowsOf 4 (now (items .entry)))) (now (out .entry)) r (now (out .exit)) ⌝ }
 {
     if flexible {
         return items_of_width(out, true, 7, items);
@@ -161,7 +168,7 @@ fn untagged_items(out: &mut [u8], flexible: bool, items: &[u64]) -> usize
 
 fn items_part(out: &mut [u8], flexible: bool, lent: &[u8], items: &[u64], tags: &[u64]) -> usize
     requires { ⌜ sum (told 3) (rowsOf 4 (now items)) * 3 ≤ length (now tags) ⌝ }
-    ensures { λ r. ⌜ Capped (itemsBytes flexible (now (lent .entry)) (now (items .entry)) (now (tags .entry))) (now (out .entry)) r (now (out .exit)) ⌝ }
+    ensures { λ r. ⌜ Capped (itemsBytes (now (lent .entry)) (itemShape flexible) (length (now (items .entry)) / 4) 1 ([] ∷ now (items .entry) ∷ now (tags .entry) ∷ [])) (now (out .entry)) r (now (out .exit)) ⌝ }
 {
     if tags.len() < 3 {
         return untagged_items(out, flexible, items);
@@ -181,7 +188,7 @@ fn form_of(flexible: bool) -> Form
 // The items behind their number.
 fn array(out: &mut [u8], flexible: bool, lent: &[u8], items: &[u64], tags: &[u64]) -> usize
     requires { ⌜ sum (told 3) (rowsOf 4 (now items)) * 3 ≤ length (now tags) ⌝ }
-    ensures { λ r. ⌜ Capped (arrayBytes flexible (now (lent .entry)) (now (items .entry)) (now (tags .entry))) (now (out .entry)) r (now (out .exit)) ⌝ }
+    ensures { λ r. ⌜ Capped (bytesAt (now (lent .entry)) (itemsShape flexible Rows.end) 0 ((length (now (items .entry)) / 4 ∷ []) ∷ now (items .entry) ∷ now (tags .entry) ∷ [])) (now (out .entry)) r (now (out .exit)) ⌝ }
 {
     let a = put::length(out, form_of(flexible), (items.len() / 4) as u64);
     let p = put::behind(a, out.len());
@@ -190,7 +197,7 @@ fn array(out: &mut [u8], flexible: bool, lent: &[u8], items: &[u64], tags: &[u64
 }
 
 fn throttle_time(out: &mut [u8], throttle: bool, n: u64) -> usize
-    ensures { λ r. ⌜ Capped (throttleBytes throttle n) (now (out .entry)) r (now (out .exit)) ⌝ }
+    ensures { λ r. ⌜ Capped (rowBytes [] (throttleShape throttle Rows.end) (2 ∷ n ∷ [])) (now (out .entry)) r (now (out .exit)) ⌝ }
 {
     if throttle {
         return put::lowest(out, n, 4);
@@ -200,7 +207,7 @@ fn throttle_time(out: &mut [u8], throttle: bool, n: u64) -> usize
 
 // What stands behind the items.
 fn end(out: &mut [u8], throttle: bool, flexible: bool, lent: &[u8], n: u64, table: &[u64]) -> usize
-    ensures { λ r. ⌜ Capped (endBytes throttle flexible (now (lent .entry)) n (now (table .entry))) (now (out .entry)) r (now (out .exit)) ⌝ }
+    ensures { λ r. ⌜ Capped (bytesAt (now (lent .entry)) (endShape throttle flexible) 0 ((2 ∷ n ∷ length (now (table .entry)) / 3 ∷ []) ∷ [] ∷ now (table .entry) ∷ [])) (now (out .entry)) r (now (out .exit)) ⌝ }
 {
     let a = throttle_time(out, throttle, n);
     let p = put::behind(a, out.len());
@@ -220,7 +227,7 @@ fn rest(
     tags: &[u64],
 ) -> usize
     requires { ⌜ count own + sum (told 3) (rowsOf 4 (now items)) ≡ length (now tags) / 3 ⌝ }
-    ensures { λ r. ⌜ Capped (restBytes throttle flexible (now (lent .entry)) n own (now (items .entry)) (now (tags .entry))) (now (out .entry)) r (now (out .exit)) ⌝ }
+    ensures { λ r. ⌜ Capped (bytesAt (now (lent .entry)) (itemsShape flexible (endShape throttle flexible)) 0 ((length (now (items .entry)) / 4 ∷ 2 ∷ n ∷ own ∷ []) ∷ now (items .entry) ∷ now (tags .entry) ∷ [])) (now (out .entry)) r (now (out .exit)) ⌝ }
 {
     let from = (tags.len() / 3 - rows_told(own) as usize) * 3;
     let a = array(out, flexible, lent, items, tags);
@@ -241,7 +248,7 @@ fn body(
     tags: &[u64],
 ) -> usize
     requires { ⌜ count own + sum (told 3) (rowsOf 4 (now items)) ≡ length (now tags) / 3 ⌝ }
-    ensures { λ r. ⌜ Capped (responseBytes throttle flexible (now (lent .entry)) error n own (now (items .entry)) (now (tags .entry))) (now (out .entry)) r (now (out .exit)) ⌝ }
+    ensures { λ r. ⌜ Capped (bytesAt (now (lent .entry)) (responseShape throttle flexible) 0 ((error ∷ length (now (items .entry)) / 4 ∷ 2 ∷ n ∷ own ∷ []) ∷ now (items .entry) ∷ now (tags .entry) ∷ [])) (now (out .entry)) r (now (out .exit)) ⌝ }
 {
     let a = put::lowest(out, error, 2);
     let p = put::behind(a, out.len());
@@ -264,19 +271,9 @@ fn written(
     items: &[u64],
     tags: &[u64],
 ) -> Written
-    ensures { λ r. ⌜ replied r (now (out .exit)) ≡ writeAlone (responseFault throttle flexible (length (now (lent .entry))) error count n own (now (items .entry)) (now (tags .entry))) (responseBytes throttle flexible (now (lent .entry)) error n own (now (items .entry)) (now (tags .entry))) (now (out .entry)) ⌝ }
+    ensures { λ r. ⌜ replied r (now (out .exit)) ≡ writeAlone (refusalOf (now (lent .entry)) 2 (responseShape false false) (responseShape throttle flexible) ((error ∷ count ∷ 2 ∷ n ∷ own ∷ []) ∷ now (items .entry) ∷ now (tags .entry) ∷ [])) (bytesAt (now (lent .entry)) (responseShape throttle flexible) 0 ((error ∷ length (now (items .entry)) / 4 ∷ 2 ∷ n ∷ own ∷ []) ∷ now (items .entry) ∷ now (tags .entry) ∷ [])) (now (out .entry)) ⌝ }
 {
-    let e = refusal(
-        throttle,
-        flexible,
-        lent.len(),
-        items,
-        tags,
-        error,
-        count,
-        n,
-        own,
-    );
+    let e = refusal(throttle, lent.len(), items, tags, error, count, n, own);
     if e != 0 {
         return Written::Refused(at(e, 0));
     }

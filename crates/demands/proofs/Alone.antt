@@ -151,7 +151,7 @@ read-kind k s = go (getElem? kinds k)
 
 count-most : (z : Size) (null : Bool) (n : ℕ) → countFault z null n ≤ 11
 unfolding countFault
-count-most z null n = unless-most (cond null true (ltb n (limit z))) 11 11 (omega arith)
+count-most z null n = unless-most (cond null true (ltb n (limit z))) 2 11 (omega arith)
 
 write-alone : (f : ℕ) → f ≤ 11 → (bs out : List ℕ) → Answered 0 out (writeAlone f bs out .1) (writeAlone f bs out .0)
 unfolding writeAlone

@@ -18,11 +18,13 @@ use Rattle.layout.specs.Messages.Fetch as Fetch
 use Rattle.layout.specs.Messages.Metadata as Metadata
 use Rattle.layout.proofs.Looked.{lookup-tells}
 use Rattle.layout.proofs.Refusals.{Refuses, seen-refuses}
-use Rattle.kinds.specs.Kinds.{isSet, readKind, writeKind}
-use Rattle.gateway.specs.Replies.{numbers, primitiveNumbers, tagsNumbers, told}
+use Rattle.kinds.specs.Kinds.{readKind, writeKind}
+use Rattle.primitives.specs.Answers.{isSet}
+use Rattle.gateway.specs.Replies.{numbers, told}
+use Rattle.gateway_primitives.specs.Replies.{primitiveNumbers, tagsNumbers}
 use Rattle.gateway.specs.declared.Numbers.{Numbers}
-use Rattle.gateway.specs.declared.PrimitiveNumbers.{PrimitiveNumbers}
-use Rattle.gateway.specs.declared.TagsNumbers.{TagsNumbers}
+use Rattle.gateway_primitives.specs.declared.PrimitiveNumbers.{PrimitiveNumbers}
+use Rattle.gateway_primitives.specs.declared.TagsNumbers.{TagsNumbers}
 use Rattle.gateway_api_versions.specs.Replies.{requestNumbers, responseNumbers}
 use Rattle.gateway_api_versions.specs.declared.RequestNumbers.{RequestNumbers}
 use Rattle.gateway_api_versions.specs.declared.ResponseNumbers.{ResponseNumbers}

@@ -21,7 +21,7 @@ use Rattle.layout.proofs.Proper as Proper
 use Rattle.layout.proofs.Proper.{owed, proper}
 use Rattle.layout.proofs.Tests.{le-true}
 use Rattle.layout.proofs.Trip.{lays, tables-mean}
-use Rattle.kinds.specs.Kinds.{isSet}
+use Rattle.primitives.specs.Answers.{isSet}
 use Rattle.gateway.specs.Replies.{numbers, told}
 use Rattle.gateway.specs.declared.Numbers.{Numbers}
 use Rattle.gateway_api_versions.specs.Replies.{requestNumbers, responseNumbers}

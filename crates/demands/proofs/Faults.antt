@@ -12,7 +12,7 @@ use Rattle.layout.specs.Reading.{Refusal, Res, bad, because, ok}
 use Rattle.layout.specs.Primitives.{Maybe, Size, holds, keeps, limit}
 use Rattle.layout.specs.Utf8.{utf8}
 use Rattle.layout.specs.Rows.{Basic, BasicValue, Shape, Value, absent, array, blob, boolean, end, field, lacking, level, natural, number, optional, text}
-use Rattle.layout.specs.Write.{basicFault, fault, firstOf, or, sizedFault, unless}
+use Rattle.layout.specs.Write.{basicFault, fault, firstOf, or, sizedFault, tooLong, unless}
 use Rattle.layout.specs.Tables.{Tables, good}
 use Rattle.layout.specs.Answers.{Answer, Message, accepted, body, judgedGood, made, meant, most, offered, refused, shape, stored, writeAnswer}
 use Rattle.demands.specs.Refusals.{Answered, Fair}
@@ -35,11 +35,19 @@ unfolding firstOf
 first-most k g h [] = omega arith
 first-most k g h (x ∷ xs) = or-most k (g x) (firstOf g xs) (h x) (first-most k g h xs)
 
+long-most : (z : Size) (n : ℕ) → tooLong z n ≤ 11
+unfolding tooLong
+long-most z n = go (leb (limit z) 32768)
+  where
+    go : (b : Bool) → cond b (unless (ltb n (limit z)) 11) 0 ≤ 11
+    go true = unless-most (ltb n (limit z)) 11 11 (omega arith)
+    go false = omega arith
+
 sized-most : {A : Type 0} (b : Bool) (z : Size) (g : List A → ℕ) → ((xs : List A) → g xs ≤ 11) → (x : Maybe b (List A)) → sizedFault b z g x ≤ 11
 unfolding sizedFault
 sized-most true z g h none = omega arith
-sized-most true z g h (some xs) = or-most 11 _ (g xs) (unless-most (ltb (length xs) (limit z)) 11 11 (omega arith)) (h xs)
-sized-most false z g h xs = or-most 11 _ (g xs) (unless-most (ltb (length xs) (limit z)) 11 11 (omega arith)) (h xs)
+sized-most true z g h (some xs) = or-most 11 _ (g xs) (long-most z (length xs)) (h xs)
+sized-most false z g h xs = or-most 11 _ (g xs) (long-most z (length xs)) (h xs)
 
 pub basic-most : (k : Basic) (x : BasicValue (List ℕ) k) → basicFault k x ≤ 11
 unfolding basicFault

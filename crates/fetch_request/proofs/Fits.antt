@@ -1,20 +1,18 @@
--- 11 of a request's numbers, and each way out of the judgement of a whole request.
-use mathlib.Core.Bool.{Bool, _&&_, false, true}
+-- 11 of a request's numbers.
+use mathlib.Core.Bool.{Bool, _&&_, cond, false, true}
 use mathlib.Core.List.{List, [], _∷_}
 use mathlib.Core.Path.{_∙_, _≡_, ap, ap₂, refl, sym}
 use Prim.Native.Nat.{_*_, _+_, _/_, _<_, _≤_, ℕ}
 use native.Mathlib.Nat.{add-zero}
-use native.Mathlib.Omega.{arith}
 use lib.Dec.{leb, lit<, ltb}
 use lib.ListN.{getD, length}
 use Rattle.layout.specs.Primitives.{holds, w32}
 use Rattle.layout.specs.Tables.{all, rowsOf}
-use Rattle.layout.specs.Write.{or, unless}
 use Rattle.layout.proofs.Proper.{both}
 use Rattle.layout.proofs.Tests.{lt-false, lt-true}
 use Rattle.rows.proofs.Chunks.{row-cell}
 use Rattle.writers.specs.Answers.{within}
-use Rattle.fetch_request.specs.Judged.{bothHold, bothSmall, largestHolds, leadFault, leadHolds, levelHolds, limitsFault, limitsHold, partitionHolds, partitionSmall, partitionsHold, requestFault, requestGood, topicsFault}
+use Rattle.fetch_request.specs.Judged.{bothHold, bothSmall, partitionHolds, partitionSmall}
 
 pub is-held : (n : ℕ) → within 2147483648 n ≡ holds w32 n
 unfolding within holds
@@ -30,20 +28,16 @@ module _ (a x y : Bool) (e : a ≡ x) where
 
 -- what a version may lack
 module _ (b : Bool) (n : ℕ) where
-  pub largest-there : b ≡ true → (r : Bool) → r ≡ within 2147483648 n → r ≡ largestHolds b n
-  unfolding largestHolds
+  pub largest-there : b ≡ true → (r : Bool) → r ≡ within 2147483648 n → r ≡ cond b (holds w32 n) true
   largest-there h r e = e ∙ is-held n ∙ sym (rw h)
 
-  pub largest-lacking : b ≡ false → true ≡ largestHolds b n
-  unfolding largestHolds
+  pub largest-lacking : b ≡ false → true ≡ cond b (holds w32 n) true
   largest-lacking h = sym (rw h)
 
-  pub level-there : b ≡ true → leb n 1 ≡ levelHolds b n
-  unfolding levelHolds
+  pub level-there : b ≡ true → leb n 1 ≡ cond b (leb n 1) true
   level-there h = sym (rw h)
 
-  pub level-lacking : b ≡ false → true ≡ levelHolds b n
-  unfolding levelHolds
+  pub level-lacking : b ≡ false → true ≡ cond b (leb n 1) true
   level-lacking h = sym (rw h)
 
 -- a partition's numbers, as the table has them
@@ -87,34 +81,5 @@ small-rows (r ∷ rs) e =
     let h : (partitionSmall r ≡ true) × (all partitionSmall rs ≡ true) = both _ _ e in
     ap₂ (λ (a b : Bool). a && b) (sym (small-row r (h .0))) (small-rows rs (h .1))
 
-pub small-fit : (partitions : List ℕ) → all partitionSmall (rowsOf 3 partitions) ≡ true → true ≡ partitionsHold partitions
-unfolding partitionsHold
+pub small-fit : (partitions : List ℕ) → all partitionSmall (rowsOf 3 partitions) ≡ true → true ≡ all partitionHolds (rowsOf 3 partitions)
 small-fit partitions e = small-rows (rowsOf 3 partitions) e
-
--- ---- 13, 11, 7 or none of them
-
-module _ (b i : Bool) (lent : List ℕ) (size c replica wait least largest level : ℕ) (topics partitions : List ℕ) (g : Bool) (e : g ≡ requestGood size c topics partitions) where
-  abbrev fault : ℕ
-  fault = requestFault b i lent size c replica wait least largest level topics partitions
-
-  pub fault-bad : g ≡ false → 13 ≡ fault
-  unfolding requestFault
-  fault-bad h = sym (rw (← e, h))
-
-  module _ (h : g ≡ true) (x : Bool) (j : x ≡ leadHolds replica wait least) where
-    pub fault-lead : x ≡ false → 11 ≡ fault
-    unfolding requestFault leadFault unless or
-    fault-lead k = sym (rw (← e, h, ← j, k))
-
-    module _ (k : x ≡ true) (y : Bool) (l : y ≡ limitsHold b i largest level) where
-      pub fault-limits : y ≡ false → 11 ≡ fault
-      unfolding requestFault leadFault limitsFault unless or
-      fault-limits m = sym (rw (← e, h, ← j, k, ← l, m))
-
-      pub fault-many : y ≡ true → 2147483648 ≤ length topics / 3 → 11 ≡ fault
-      unfolding requestFault leadFault limitsFault unless or
-      fault-many m n = sym (rw (← e, h, ← j, k, ← l, m, lt-false (length topics / 3) 2147483648 n))
-
-      pub fault-topics : y ≡ true → length topics / 3 < 2147483648 → (r : ℕ) → r ≡ topicsFault lent topics partitions → r ≡ fault
-      unfolding requestFault leadFault limitsFault unless or
-      fault-topics m n r o = o ∙ sym (rw (← e, h, ← j, k, ← l, m, lt-true (length topics / 3) 2147483648 n))

@@ -1,20 +1,14 @@
--- what the rows of topics and of partitions mean
-pub mod Value
--- a request part by part
+-- bytes one behind the other
 pub mod Walk
--- the most bytes of a request
-pub mod Most
--- the loop over the topics
-pub mod Topics
--- 13: counts that add up, and what tables that are not refused hold
-pub mod Good
--- 11 of numbers, and a whole request judged
+-- 13, and the faults of the own row
+pub mod OwnRow
+-- 11 and 7 of a topic
+pub mod Topic
+-- numbers that fit
 pub mod Fits
--- 11 and 7 topic by topic
-pub mod Faults
--- 13, 11 and 7: what the definition comes to
-pub mod Refused
--- what the definition of writing comes to
-pub mod Meant
+-- the most bytes that a request can have
+pub mod Most
+-- the answer to the call
+pub mod Call
 -- a promise determines reply and output
 pub mod Unique

@@ -2,7 +2,5 @@
 pub mod Answers
 -- the layout of a version
 pub mod Shapes
--- a request's bytes
-pub mod Written
--- what is refused of a request
+-- tests of a row of partitions
 pub mod Judged

@@ -1,12 +1,16 @@
 // What is refused of a Fetch request before a byte is written: tables that do not add up, names outside the lent bytes,
 // and then in field order numbers too wide, names too long and names that are not text.
+ghost use mathlib.Core.Bool.{_&&_, cond, false, true};
 ghost use mathlib.Core.Path.{_≡_};
-ghost use mathlib.Core.List.{[]};
+ghost use mathlib.Core.List.{[], _∷_};
 ghost use lib.ListN.{getD, length};
 ghost use Prim.Native.Nat.{_/_, _<_, _^_, _≤_};
-ghost use Rattle.layout.specs.Tables.{all, rowsOf, sum};
-ghost use Rattle.fetch_request.specs.Judged.{bothHold, bothSmall, largestHolds, leadHolds, levelHolds, limitsHold, partitionSmall, partitionsHold, requestFault, requestGood, topicFault, topicsFault};
-ghost use Rattle.fetch_request.specs.Written.{cellsOf};
+ghost use lib.Dec.{leb};
+ghost use Rattle.layout.specs.Primitives.{holds, w32};
+ghost use Rattle.layout.specs.Tables.{all, good, rowsOf, sum};
+ghost use Rattle.rows.specs.Writes.{faultAt, itemsFault, refusalOf, takes};
+ghost use Rattle.fetch_request.specs.Judged.{bothHold, bothSmall, partitionHolds, partitionSmall};
+ghost use Rattle.fetch_request.specs.Shapes.{ownRow, ownShape, requestShape, topicShape};
 use crate::Own;
 use primitives::BAD_TABLES;
 use primitives::TOO_WIDE;
@@ -21,7 +25,7 @@ use writers::write::fits;
 // ---- 13
 
 fn is_good(size: usize, count: u64, topics: &[u64], partitions: &[u64]) -> bool
-    ensures { λ r. ⌜ r ≡ requestGood size count (now (topics .entry)) (now (partitions .entry)) ⌝ }
+    ensures { λ r. ⌜ r ≡ good size 2 (requestShape false false) ((0 ∷ 0 ∷ 0 ∷ 0 ∷ 0 ∷ 0 ∷ 0 ∷ count ∷ []) ∷ now (topics .entry) ∷ now (partitions .entry) ∷ []) ⌝ }
 {
     if count != (topics.len() / 3) as u64 {
         return false;
@@ -44,7 +48,7 @@ fn both_fit(m: u64, n: u64) -> bool
 }
 
 fn lead_fits(replica: u64, wait: u64, least: u64) -> bool
-    ensures { λ r. ⌜ r ≡ leadHolds replica wait least ⌝ }
+    ensures { λ r. ⌜ r ≡ (holds w32 replica && bothHold wait least) ⌝ }
 {
     if !fits(replica, 2147483648) {
         return false;
@@ -54,7 +58,7 @@ fn lead_fits(replica: u64, wait: u64, least: u64) -> bool
 
 // Max bytes, where the version has them.
 fn largest_fits(b: bool, largest: u64) -> bool
-    ensures { λ r. ⌜ r ≡ largestHolds b largest ⌝ }
+    ensures { λ r. ⌜ r ≡ cond b (holds w32 largest) true ⌝ }
 {
     if b {
         return fits(largest, 2147483648);
@@ -64,7 +68,7 @@ fn largest_fits(b: bool, largest: u64) -> bool
 
 // An isolation level is 0 or 1.
 fn level_fits(i: bool, level: u64) -> bool
-    ensures { λ r. ⌜ r ≡ levelHolds i level ⌝ }
+    ensures { λ r. ⌜ r ≡ cond i (leb level 1) true ⌝ }
 {
     if i {
         return level <= 1;
@@ -73,7 +77,7 @@ fn level_fits(i: bool, level: u64) -> bool
 }
 
 fn limits_fit(b: bool, i: bool, largest: u64, level: u64) -> bool
-    ensures { λ r. ⌜ r ≡ limitsHold b i largest level ⌝ }
+    ensures { λ r. ⌜ r ≡ (cond b (holds w32 largest) true && cond i (leb level 1) true) ⌝ }
 {
     if !largest_fits(b, largest) {
         return false;
@@ -124,7 +128,7 @@ fn all_small(partitions: &[u64]) -> bool
 }
 
 fn all_fit(partitions: &[u64]) -> bool
-    ensures { λ r. ⌜ r ≡ partitionsHold (now (partitions .entry)) ⌝ }
+    ensures { λ r. ⌜ r ≡ all partitionHolds (rowsOf 3 (now (partitions .entry))) ⌝ }
 {
     let n = partitions.len() / 3;
     let mut i: usize = 0;
@@ -139,7 +143,7 @@ fn all_fit(partitions: &[u64]) -> bool
 
 // Mostly no number is below zero.
 fn partitions_fit(partitions: &[u64]) -> bool
-    ensures { λ r. ⌜ r ≡ partitionsHold (now (partitions .entry)) ⌝ }
+    ensures { λ r. ⌜ r ≡ all partitionHolds (rowsOf 3 (now (partitions .entry))) ⌝ }
 {
     if all_small(partitions) {
         return true;
@@ -149,25 +153,22 @@ fn partitions_fit(partitions: &[u64]) -> bool
 
 // The cells of partitions that the first row of `topics` takes.
 pub(crate) fn cells(topics: &[u64]) -> usize
-    requires { ⌜ (3 ≤ length (now topics)) × (cellsOf (now topics) < 2 ^ 62) ⌝ }
-    ensures { λ r. ⌜ r ≡ cellsOf (now (topics .entry)) ⌝ }
+    requires { ⌜ (3 ≤ length (now topics)) × (takes 3 2 (now topics) < 2 ^ 62) ⌝ }
+    ensures { λ r. ⌜ r ≡ takes 3 2 (now (topics .entry)) ⌝ }
 {
     rows_told(topics[2]) as usize * 3
 }
 
 // Of the first row of `topics`, with the first rows of `partitions`.
 fn topic_fault(lent: &[u8], topics: &[u64], partitions: &[u64]) -> u8
-    requires { ⌜ (3 ≤ length (now topics)) × (cellsOf (now topics) ≤ length (now partitions)) ⌝ }
-    ensures { λ r. ⌜ r ≡ topicFault (now (lent .entry)) (now (topics .entry)) (now (partitions .entry)) ⌝ }
+    requires { ⌜ (3 ≤ length (now topics)) × (takes 3 2 (now topics) ≤ length (now partitions)) ⌝ }
+    ensures { λ r. ⌜ r ≡ faultAt (now (lent .entry)) topicShape 1 ([] ∷ now (topics .entry) ∷ now (partitions .entry) ∷ []) ⌝ }
 {
     let e = string_fault(part(lent, topics[0], topics[1]));
     if e != 0 {
         return e;
     }
     let k = cells(topics);
-    if 6442450944 <= k {
-        return TOO_WIDE;
-    }
     if !partitions_fit(&partitions[..k]) {
         return TOO_WIDE;
     }
@@ -176,8 +177,8 @@ fn topic_fault(lent: &[u8], topics: &[u64], partitions: &[u64]) -> u8
 
 // That of the first topic that has one.
 fn topics_fault(lent: &[u8], topics: &[u64], partitions: &[u64]) -> u8
-    requires { ⌜ sum cellsOf (rowsOf 3 (now topics)) ≤ length (now partitions) ⌝ }
-    ensures { λ r. ⌜ r ≡ topicsFault (now (lent .entry)) (now (topics .entry)) (now (partitions .entry)) ⌝ }
+    requires { ⌜ sum (takes 3 2) (rowsOf 3 (now topics)) ≤ length (now partitions) ⌝ }
+    ensures { λ r. ⌜ r ≡ itemsFault (now (lent .entry)) topicShape (length (now (topics .entry)) / 3) 1 ([] ∷ now (topics .entry) ∷ now (partitions .entry) ∷ []) ⌝ }
 {
     let mut left = topics;
     let mut free = partitions;
@@ -193,9 +194,9 @@ fn topics_fault(lent: &[u8], topics: &[u64], partitions: &[u64]) -> u8
     0
 }
 
-// 13, 11, 7, or 0 for none of them. More topics than an array's count can tell are 11 too.
+// 13, 11, 7, or 0 for none of them.
 pub(crate) fn refusal(own: Own, count: u64, lent: &[u8], topics: &[u64], partitions: &[u64]) -> u8
-    ensures { λ r. ⌜ r ≡ requestFault (own .limited) (own .isolated) (now (lent .entry)) (length (now (lent .entry))) count (own .replica) (own .wait) (own .least) (own .largest) (own .level) (now (topics .entry)) (now (partitions .entry)) ⌝ }
+    ensures { λ r. ⌜ r ≡ refusalOf (now (lent .entry)) 2 (requestShape false false) (ownShape own) (ownRow own count ∷ now (topics .entry) ∷ now (partitions .entry) ∷ []) ⌝ }
 {
     if !is_good(lent.len(), count, topics, partitions) {
         return BAD_TABLES;
@@ -204,9 +205,6 @@ pub(crate) fn refusal(own: Own, count: u64, lent: &[u8], topics: &[u64], partiti
         return TOO_WIDE;
     }
     if !limits_fit(own.limited, own.isolated, own.largest, own.level) {
-        return TOO_WIDE;
-    }
-    if 2147483648 <= topics.len() / 3 {
         return TOO_WIDE;
     }
     topics_fault(lent, topics, partitions)

@@ -1,18 +1,20 @@
 // The body of a Fetch request, versions 0 to 4. Topics are rows of name (start, length) and number of partitions; partitions rows of index, offset and max bytes.
 // Max bytes stand from version 3 on, an isolation level in version 4.
+ghost use mathlib.Core.Bool.{cond, false};
 ghost use mathlib.Core.Path.{_≡_};
 ghost use mathlib.Core.List.{[], _++_, _∷_};
 ghost use lib.ListN.{getD, length};
 ghost use Prim.Native.Nat.{_*_, _+_, _/_, _<_, _≤_};
 ghost use Rattle.layout.specs.Answers.{writeAlone, writeAnswer};
 ghost use Rattle.layout.specs.Messages.Fetch as Fetch;
-ghost use Rattle.layout.specs.Primitives.{bytes};
+ghost use Rattle.layout.specs.Primitives.{bytes, empty, fixed, w32};
+ghost use Rattle.layout.specs.Rows.{end};
 ghost use Rattle.layout.specs.Tables.{rowsOf, sum};
 ghost use Rattle.rows.specs.Step.{Capped, cap};
+ghost use Rattle.rows.specs.Writes.{bytesAt, countedBytes, itemsBytes, refusalOf, rowBytes, rowsBytes, takes};
 ghost use Rattle.writers.specs.Answers.{replied};
 ghost use Rattle.fetch_request.specs.Answers.{ofRequest};
-ghost use Rattle.fetch_request.specs.Judged.{requestFault};
-ghost use Rattle.fetch_request.specs.Written.{arrayBytes, bytesIf, cellsOf, countedBytes, leadBytes, limitsBytes, partitionBytes, partitionsBytes, requestBytes, restBytes, topicBytes, topicsBytes};
+ghost use Rattle.fetch_request.specs.Shapes.{leadShape, limitsRow, limitsShape, ownRow, ownShape, partitionShape, requestShape, topicShape, topicsShape};
 use crate::Own;
 use crate::RequestBody;
 use crate::judge::cells;
@@ -43,7 +45,7 @@ fn two(out: &mut [u8], a: u64, n: usize, b: u64, m: usize) -> usize
 // A row's sixteen bytes.
 fn partition(out: &mut [u8], table: &[u64], i: usize) -> usize
     requires { ⌜ i < length (now table) / 3 ⌝ }
-    ensures { λ r. ⌜ Capped (partitionBytes (getD (rowsOf 3 (now (table .entry))) i [])) (now (out .entry)) r (now (out .exit)) ⌝ }
+    ensures { λ r. ⌜ Capped (rowBytes [] partitionShape (getD (rowsOf 3 (now (table .entry))) i [])) (now (out .entry)) r (now (out .exit)) ⌝ }
 {
     if 16 <= out.len() {
         put::lowest(out, table[i * 3], 4);
@@ -56,7 +58,7 @@ fn partition(out: &mut [u8], table: &[u64], i: usize) -> usize
 // Partition behind partition, in an output of just their size: the loop's own test tells the room of each. Two a turn, so that there are half as many tests.
 fn rows(out: &mut [u8], table: &[u64]) -> usize
     requires { ⌜ length (now out) ≡ length (now table) / 3 * 16 ⌝ }
-    ensures { λ r. ⌜ Capped (partitionsBytes (now (table .entry))) (now (out .entry)) r (now (out .exit)) ⌝ }
+    ensures { λ r. ⌜ Capped (rowsBytes [] partitionShape 3 (now (table .entry))) (now (out .entry)) r (now (out .exit)) ⌝ }
 {
     let mut p: usize = 0;
     let mut i: usize = 0;
@@ -77,7 +79,7 @@ fn rows(out: &mut [u8], table: &[u64]) -> usize
 
 // Rows of one width are measured by their number.
 fn partitions(out: &mut [u8], table: &[u64]) -> usize
-    ensures { λ r. ⌜ Capped (partitionsBytes (now (table .entry))) (now (out .entry)) r (now (out .exit)) ⌝ }
+    ensures { λ r. ⌜ Capped (rowsBytes [] partitionShape 3 (now (table .entry))) (now (out .entry)) r (now (out .exit)) ⌝ }
 {
     let all = table.len() / 3 * 16;
     if all <= out.len() {
@@ -88,7 +90,7 @@ fn partitions(out: &mut [u8], table: &[u64]) -> usize
 
 // The partitions behind their number.
 fn counted(out: &mut [u8], table: &[u64]) -> usize
-    ensures { λ r. ⌜ Capped (countedBytes (now (table .entry))) (now (out .entry)) r (now (out .exit)) ⌝ }
+    ensures { λ r. ⌜ Capped (countedBytes [] partitionShape (fixed w32 empty) 3 (now (table .entry))) (now (out .entry)) r (now (out .exit)) ⌝ }
 {
     let a = put::length(out, Form::Int32, (table.len() / 3) as u64);
     let p = put::behind(a, out.len());
@@ -98,8 +100,8 @@ fn counted(out: &mut [u8], table: &[u64]) -> usize
 
 // The first row of `topics`, with the first rows of `partitions`: measured first, and stored where there is room for all of it.
 fn topic(out: &mut [u8], lent: &[u8], topics: &[u64], partitions: &[u64]) -> usize
-    requires { ⌜ (3 ≤ length (now topics)) × (cellsOf (now topics) ≤ length (now partitions)) ⌝ }
-    ensures { λ r. ⌜ Capped (topicBytes (now (lent .entry)) (now (topics .entry)) (now (partitions .entry))) (now (out .entry)) r (now (out .exit)) ⌝ }
+    requires { ⌜ (3 ≤ length (now topics)) × (takes 3 2 (now topics) ≤ length (now partitions)) ⌝ }
+    ensures { λ r. ⌜ Capped (bytesAt (now (lent .entry)) topicShape 1 ([] ∷ now (topics .entry) ∷ now (partitions .entry) ∷ [])) (now (out .entry)) r (now (out .exit)) ⌝ }
 {
     let k = cells(topics);
     let name = part(lent, topics[0], topics[1]);
@@ -114,8 +116,8 @@ fn topic(out: &mut [u8], lent: &[u8], topics: &[u64], partitions: &[u64]) -> usi
 
 // Topic behind topic. The cells are told before the topic is stored, so that its count is loaded once.
 fn all_topics(out: &mut [u8], lent: &[u8], topics: &[u64], partitions: &[u64]) -> usize
-    requires { ⌜ sum cellsOf (rowsOf 3 (now topics)) ≤ length (now partitions) ⌝ }
-    ensures { λ r. ⌜ Capped (topicsBytes (now (lent .entry)) (now (topics .entry)) (now (partitions .entry))) (now (out .entry)) r (now (out .exit)) ⌝ }
+    requires { ⌜ sum (takes 3 2) (rowsOf 3 (now topics)) ≤ length (now partitions) ⌝ }
+    ensures { λ r. ⌜ Capped (itemsBytes (now (lent .entry)) topicShape (length (now (topics .entry)) / 3) 1 ([] ∷ now (topics .entry) ∷ now (partitions .entry) ∷ [])) (now (out .entry)) r (now (out .exit)) ⌝ }
 {
     let mut done: usize = 0;
     let mut left = topics;
@@ -133,8 +135,8 @@ fn all_topics(out: &mut [u8], lent: &[u8], topics: &[u64], partitions: &[u64]) -
 
 // The topics behind their number.
 fn array(out: &mut [u8], lent: &[u8], topics: &[u64], partitions: &[u64]) -> usize
-    requires { ⌜ sum cellsOf (rowsOf 3 (now topics)) ≤ length (now partitions) ⌝ }
-    ensures { λ r. ⌜ Capped (arrayBytes (now (lent .entry)) (now (topics .entry)) (now (partitions .entry))) (now (out .entry)) r (now (out .exit)) ⌝ }
+    requires { ⌜ sum (takes 3 2) (rowsOf 3 (now topics)) ≤ length (now partitions) ⌝ }
+    ensures { λ r. ⌜ Capped (bytesAt (now (lent .entry)) topicsShape 0 ((length (now (topics .entry)) / 3 ∷ []) ∷ now (topics .entry) ∷ now (partitions .entry) ∷ [])) (now (out .entry)) r (now (out .exit)) ⌝ }
 {
     let a = put::length(out, Form::Int32, (topics.len() / 3) as u64);
     let p = put::behind(a, out.len());
@@ -144,7 +146,7 @@ fn array(out: &mut [u8], lent: &[u8], topics: &[u64], partitions: &[u64]) -> usi
 
 // The lowest k bytes of n, where the version has the field.
 fn number_if(out: &mut [u8], has: bool, n: u64, k: usize) -> usize
-    ensures { λ r. ⌜ Capped (bytesIf has k n) (now (out .entry)) r (now (out .exit)) ⌝ }
+    ensures { λ r. ⌜ Capped (cond has (bytes k n) []) (now (out .entry)) r (now (out .exit)) ⌝ }
 {
     if has {
         return put::lowest(out, n, k);
@@ -154,7 +156,7 @@ fn number_if(out: &mut [u8], has: bool, n: u64, k: usize) -> usize
 
 // Max bytes and isolation level.
 fn limits(out: &mut [u8], b: bool, i: bool, largest: u64, level: u64) -> usize
-    ensures { λ r. ⌜ Capped (limitsBytes b i largest level) (now (out .entry)) r (now (out .exit)) ⌝ }
+    ensures { λ r. ⌜ Capped (rowBytes [] (limitsShape b i end) (2 ∷ largest ∷ 2 ∷ level ∷ [])) (now (out .entry)) r (now (out .exit)) ⌝ }
 {
     let x = number_if(out, b, largest, 4);
     let p = put::behind(x, out.len());
@@ -163,7 +165,7 @@ fn limits(out: &mut [u8], b: bool, i: bool, largest: u64, level: u64) -> usize
 }
 
 fn lead(out: &mut [u8], replica: u64, wait: u64, least: u64) -> usize
-    ensures { λ r. ⌜ Capped (leadBytes replica wait least) (now (out .entry)) r (now (out .exit)) ⌝ }
+    ensures { λ r. ⌜ Capped (rowBytes [] (leadShape end) (replica ∷ wait ∷ least ∷ [])) (now (out .entry)) r (now (out .exit)) ⌝ }
 {
     let a = put::lowest(out, replica, 4);
     let p = put::behind(a, out.len());
@@ -173,8 +175,8 @@ fn lead(out: &mut [u8], replica: u64, wait: u64, least: u64) -> usize
 
 // What stands behind min bytes.
 fn rest(out: &mut [u8], own: Own, lent: &[u8], topics: &[u64], partitions: &[u64]) -> usize
-    requires { ⌜ sum cellsOf (rowsOf 3 (now topics)) ≤ length (now partitions) ⌝ }
-    ensures { λ r. ⌜ Capped (restBytes (own .limited) (own .isolated) (now (lent .entry)) (own .largest) (own .level) (now (topics .entry)) (now (partitions .entry))) (now (out .entry)) r (now (out .exit)) ⌝ }
+    requires { ⌜ sum (takes 3 2) (rowsOf 3 (now topics)) ≤ length (now partitions) ⌝ }
+    ensures { λ r. ⌜ Capped (bytesAt (now (lent .entry)) (limitsShape (own .limited) (own .isolated) topicsShape) 0 (limitsRow own (length (now (topics .entry)) / 3) ∷ now (topics .entry) ∷ now (partitions .entry) ∷ [])) (now (out .entry)) r (now (out .exit)) ⌝ }
 {
     let x = limits(out, own.limited, own.isolated, own.largest, own.level);
     let p = put::behind(x, out.len());
@@ -183,8 +185,8 @@ fn rest(out: &mut [u8], own: Own, lent: &[u8], topics: &[u64], partitions: &[u64
 }
 
 fn body(out: &mut [u8], own: Own, lent: &[u8], topics: &[u64], partitions: &[u64]) -> usize
-    requires { ⌜ sum cellsOf (rowsOf 3 (now topics)) ≤ length (now partitions) ⌝ }
-    ensures { λ r. ⌜ Capped (requestBytes (own .limited) (own .isolated) (now (lent .entry)) (own .replica) (own .wait) (own .least) (own .largest) (own .level) (now (topics .entry)) (now (partitions .entry))) (now (out .entry)) r (now (out .exit)) ⌝ }
+    requires { ⌜ sum (takes 3 2) (rowsOf 3 (now topics)) ≤ length (now partitions) ⌝ }
+    ensures { λ r. ⌜ Capped (bytesAt (now (lent .entry)) (ownShape own) 0 (ownRow own (length (now (topics .entry)) / 3) ∷ now (topics .entry) ∷ now (partitions .entry) ∷ [])) (now (out .entry)) r (now (out .exit)) ⌝ }
 {
     let x = lead(out, own.replica, own.wait, own.least);
     let p = put::behind(x, out.len());
@@ -196,8 +198,8 @@ fn body(out: &mut [u8], own: Own, lent: &[u8], topics: &[u64], partitions: &[u64
 
 // Measured, and written where there is room.
 fn measured(out: &mut [u8], own: Own, lent: &[u8], topics: &[u64], partitions: &[u64]) -> Written
-    requires { ⌜ sum cellsOf (rowsOf 3 (now topics)) ≤ length (now partitions) ⌝ }
-    ensures { λ r. ⌜ replied r (now (out .exit)) ≡ writeAlone 0 (requestBytes (own .limited) (own .isolated) (now (lent .entry)) (own .replica) (own .wait) (own .least) (own .largest) (own .level) (now (topics .entry)) (now (partitions .entry))) (now (out .entry)) ⌝ }
+    requires { ⌜ sum (takes 3 2) (rowsOf 3 (now topics)) ≤ length (now partitions) ⌝ }
+    ensures { λ r. ⌜ replied r (now (out .exit)) ≡ writeAlone 0 (bytesAt (now (lent .entry)) (ownShape own) 0 (ownRow own (length (now (topics .entry)) / 3) ∷ now (topics .entry) ∷ now (partitions .entry) ∷ [])) (now (out .entry)) ⌝ }
 {
     let all = body(&mut out[..0], own, lent, topics, partitions);
     if MOST < all {
@@ -228,8 +230,8 @@ fn most_bytes(lent: usize, topics: usize, partitions: usize) -> usize
 
 // Where the room is plainly enough nothing is measured.
 fn stored(out: &mut [u8], own: Own, lent: &[u8], topics: &[u64], partitions: &[u64]) -> Written
-    requires { ⌜ sum cellsOf (rowsOf 3 (now topics)) ≤ length (now partitions) ⌝ }
-    ensures { λ r. ⌜ replied r (now (out .exit)) ≡ writeAlone 0 (requestBytes (own .limited) (own .isolated) (now (lent .entry)) (own .replica) (own .wait) (own .least) (own .largest) (own .level) (now (topics .entry)) (now (partitions .entry))) (now (out .entry)) ⌝ }
+    requires { ⌜ sum (takes 3 2) (rowsOf 3 (now topics)) ≤ length (now partitions) ⌝ }
+    ensures { λ r. ⌜ replied r (now (out .exit)) ≡ writeAlone 0 (bytesAt (now (lent .entry)) (ownShape own) 0 (ownRow own (length (now (topics .entry)) / 3) ∷ now (topics .entry) ∷ now (partitions .entry) ∷ [])) (now (out .entry)) ⌝ }
 {
     let enough = most_bytes(lent.len(), topics.len(), partitions.len());
     if enough <= MOST {
@@ -249,7 +251,7 @@ fn written(
     topics: &[u64],
     partitions: &[u64],
 ) -> Written
-    ensures { λ r. ⌜ replied r (now (out .exit)) ≡ writeAlone (requestFault (own .limited) (own .isolated) (now (lent .entry)) (length (now (lent .entry))) count (own .replica) (own .wait) (own .least) (own .largest) (own .level) (now (topics .entry)) (now (partitions .entry))) (requestBytes (own .limited) (own .isolated) (now (lent .entry)) (own .replica) (own .wait) (own .least) (own .largest) (own .level) (now (topics .entry)) (now (partitions .entry))) (now (out .entry)) ⌝ }
+    ensures { λ r. ⌜ replied r (now (out .exit)) ≡ writeAlone (refusalOf (now (lent .entry)) 2 (requestShape false false) (ownShape own) (ownRow own count ∷ now (topics .entry) ∷ now (partitions .entry) ∷ [])) (bytesAt (now (lent .entry)) (ownShape own) 0 (ownRow own (length (now (topics .entry)) / 3) ∷ now (topics .entry) ∷ now (partitions .entry) ∷ [])) (now (out .entry)) ⌝ }
 {
     let e = refusal(own, count, lent, topics, partitions);
     if e != 0 {

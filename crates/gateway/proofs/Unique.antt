@@ -2,20 +2,11 @@
 use mathlib.Core.List.{List}
 use mathlib.Core.Path.{_∙_, _≡_, sym}
 use Prim.Native.Nat.{ℕ}
-use Rattle.layout.specs.Tables.{Tables}
 use Rattle.gateway.specs.declared.Numbers.{Numbers}
-use Rattle.gateway.specs.declared.PrimitiveNumbers.{PrimitiveNumbers}
-use Rattle.gateway.specs.declared.TagsNumbers.{TagsNumbers}
 
 -- each promise is an equation: what an entry point hands back and leaves is what the definition gives
 pub unique : {R : Type 0} (o x y : R) → x ≡ o → y ≡ o → x ≡ y
 unique o x y h k = h ∙ sym k
-
-pub tags-unique : (o x y : TagsNumbers × Tables) → x ≡ o → y ≡ o → x ≡ y
-tags-unique = unique
-
-pub primitive-unique : (o x y : PrimitiveNumbers) → x ≡ o → y ≡ o → x ≡ y
-primitive-unique = unique
 
 -- all writers
 pub written-unique : (o x y : Numbers × List ℕ) → x ≡ o → y ≡ o → x ≡ y

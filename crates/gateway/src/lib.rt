@@ -1,4 +1,5 @@
-// The C interface: the library's calls with numbers and slices alone, and each answer as a struct of numbers. Bodies have crates of their own, as `gateway_api_versions`.
+// The C interface: the library's calls with numbers and slices alone, and each answer as a struct of numbers. Here stands what all answers begin with;
+// the entry points have crates of their own: `gateway_primitives`, and one for each message.
 // A cell is 64 bits, two's complement. Where a struct says `number` 0 the call accepted, and `place` and `need` are 0;
 // else it refused with that number of docs/RULES.md, section 10, at that place, and every other field is 0.
 ghost use mathlib.Core.Path.{_≡_};
@@ -10,9 +11,6 @@ ghost use Rattle.gateway.specs.Replies.{numbers};
 use primitives::Refusal;
 use writers::Written;
 
-pub mod primitive;
-pub mod tagged;
-
 // What every answer begins with, and that of a writer is: `used` bytes were read or written.
 #[repr(C)]
 pub struct Numbers {
@@ -20,28 +18,6 @@ pub struct Numbers {
     pub place: u64,
     pub need: u64,
     pub used: u64,
-}
-
-// Tagged fields: the bytes used, and how many tags there are.
-#[repr(C)]
-pub struct TagsNumbers {
-    pub number: u64,
-    pub place: u64,
-    pub need: u64,
-    pub used: u64,
-    pub tags: u64,
-}
-
-// A primitive: `form` is 2 for a value and 1 for null; `value` is the cell of a number, a count, or the start of a part; `length` is that of a part.
-#[repr(C)]
-pub struct PrimitiveNumbers {
-    pub number: u64,
-    pub place: u64,
-    pub need: u64,
-    pub used: u64,
-    pub form: u64,
-    pub value: u64,
-    pub length: u64,
 }
 
 // So many bytes were read or written.

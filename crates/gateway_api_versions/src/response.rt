@@ -4,7 +4,7 @@ ghost use mathlib.Core.List.{[], _∷_};
 ghost use Rattle.layout.specs.Answers.{accepted, readAnswer, writeAnswer};
 ghost use Rattle.layout.specs.Messages.ApiVersions as Api;
 ghost use Rattle.api_versions.specs.Answers.{ofResponse, ofResponseReply};
-ghost use Rattle.kinds.specs.Kinds.{isSet};
+ghost use Rattle.primitives.specs.Answers.{isSet};
 ghost use Rattle.gateway.specs.Replies.{numbers, told};
 ghost use Rattle.gateway_api_versions.specs.Replies.{responseNumbers, responseRow};
 use crate::ResponseNumbers;

@@ -1,5 +1,3 @@
--- a Boolean as a number
-pub mod Set
 -- from what the reader of a kind promises to the answer by kind
 pub mod ByKind
 -- a promise determines the reply

@@ -17,7 +17,7 @@ use Rattle.layout.specs.Write.{basicFault, unless, writeBasic}
 use Rattle.layout.specs.Answers.{Answer, accepted, refused, alone, writeAlone}
 use Rattle.fields.specs.Answers.{counted}
 use Rattle.writers.specs.Answers.{countBytes, countFault, nullOr}
-use Rattle.primitives.specs.Answers.{ofRefusal}
+use Rattle.primitives.specs.Answers.{isSet, ofRefusal}
 use Rattle.kinds.specs.declared.Reply.{Reply}
 
 -- a number of a width, the others by their names in Kafka's guide, a length or count, data, text
@@ -112,11 +112,6 @@ unfoldable pub readKind : ℕ → List ℕ → Answer
 readKind k s = readIf (getElem? kinds k) s
 
 -- ---- written: whether it is null, the number as a cell or the count, and the text or data
-
--- a Boolean as a number: 0 is false, any other number true
-unfoldable pub isSet : ℕ → Bool
-isSet zero = false
-isSet (suc n) = true
 
 -- null is looked at where it is a value of its own
 abbrev pub given : (b : Bool) → Bool → List ℕ → Maybe b (List ℕ)

@@ -1,7 +1,5 @@
 // Primitives by the number of their kind, as a caller that has only numbers asks for them: the kinds, and the call that reads one.
 // The call that writes one is the crate `kinds_written`.
-ghost use mathlib.Core.Path.{_≡_};
-ghost use Rattle.kinds.specs.Kinds.{isSet};
 use primitives::Refusal;
 
 pub mod read;
@@ -16,14 +14,4 @@ pub enum Reply {
         used: usize,
     },
     Refused(Refusal),
-}
-
-// 0 is false, any other number true.
-pub fn is_set(n: u64) -> bool
-    ensures { λ r. ⌜ r ≡ isSet n ⌝ }
-{
-    if n == 0 {
-        return false;
-    }
-    true
 }

@@ -11,13 +11,15 @@ use lib.ListN.{length, length-append}
 use lib.Seq.{drop-append-seam, take-append-seam}
 use Rattle.layout.specs.Reading.{Reader, give, here, many, ok, pair, pick, placed, primitive, raw, then}
 use Rattle.layout.specs.Utf8.{utf8}
-use Rattle.layout.specs.Primitives.{Maybe, Null, Size, Width, be, bits, bytes, cell, checked, compact, fixed, flag, flagBytes, groups, holds, int, integer, integerBytes, keeps, lengthBytes, lengthOf, limit, nullBytes, plain, shortest, signed, size, sized, sizedBytes, unsigned, unsignedBytes, w8}
+use Rattle.layout.specs.Primitives.{Maybe, Null, Size, Width, be, bits, bytes, cell, checked, compact, fixed, flag, flagBytes, groups, holds, int, integer, integerBytes, keeps, lengthBytes, lengthOf, limit, nullBytes, plain, shortest, signed, size, sized, sizedBytes, unsigned, unsignedBytes, w16, w32, w64, w8}
 use Rattle.layout.specs.Rows.{Basic, BasicValue, Shape, Value, absent, array, blob, boolean, end, field, lacking, level, natural, number, optional, text}
 use Rattle.layout.specs.Read.{byBytes, read, readBasic, readBlob, readText}
-use Rattle.layout.specs.Write.{basicFault, each, fault, firstOf, or, sizedFault, unless, write, writeBasic}
+use Rattle.layout.specs.Answers.{most}
+use Rattle.layout.specs.Write.{basicFault, each, fault, firstOf, or, sizedFault, tooLong, unless, write, writeBasic}
 use Rattle.layout.proofs.Tests.{is-true, lt-false, lt-true, of-le, of-lt, one-more}
 use Rattle.layout.proofs.Cells.{extend, extend-bytes, pattern, powers}
 use Rattle.layout.proofs.Local.{raw-ok}
+use Rattle.layout.proofs.Parts.{Eating, Eats}
 
 -- r reads w as x, whatever follows
 pub record Back {A : Type 0} (r : Reader A) (w : List ℕ) (x : A) : Type 0 where
@@ -185,63 +187,146 @@ unfolding unless
 unless-none true e h = refl
 unless-none false e h = absurd (suc-ne-zero e h)
 
+-- a body within the limit has its parts within it
+append-most : (x y : List ℕ) → length (x ++ y) ≤ most → (length x ≤ most) × (length y ≤ most)
+append-most x y h = let e = length-append x y in (omega arith, omega arith)
+
 pub small-none : (a b e : ℕ) → unless (ltb a b) (suc e) ≡ 0 → a < b
 small-none a b e h = of-lt a b (unless-none _ e h)
 
-pub back-many : {A : Type 0} (r : Reader A) (w : A → List ℕ) (g : A → ℕ) → ((x : A) → g x ≡ 0 → Back r (w x) x) → (xs : List A) → firstOf g xs ≡ 0 → Back (many (length xs) r) (each w xs) xs
+pub back-many : {A : Type 0} (r : Reader A) (w : A → List ℕ) (g : A → ℕ) → ((x : A) → g x ≡ 0 → length (w x) ≤ most → Back r (w x) x) → (xs : List A) → firstOf g xs ≡ 0 → length (each w xs) ≤ most → Back (many (length xs) r) (each w xs) xs
 unfolding many each firstOf
-back-many r w g h [] a = back-give []
-back-many r w g h (x ∷ xs) a =
+back-many r w g h [] a m = back-give []
+back-many r w g h (x ∷ xs) a m =
     let o = or-none (g x) (firstOf g xs) a in
-    back-then r _ (w x) (each w xs) x _ (h x (o .0)) (back-map _ _ (each w xs) xs (back-many r w g h xs (o .1)))
+    let s = append-most (w x) (each w xs) m in
+    back-then r _ (w x) (each w xs) x _ (h x (o .0) (s .0)) (back-map _ _ (each w xs) xs (back-many r w g h xs (o .1) (s .1)))
 
 back-some : (a : Bool) (e : ℕ) (z : Size) (n : ℕ) → n < limit z → Back (checked a e (lengthOf unsigned z)) (lengthBytes z n) (n + 1)
 unfolding checked
 back-some a e z n h = back-primitive _ _ _ (back-last _ _ _ (n + 1) _ (back-length z n h) (back-false _ _ _ _ _ (one-more n) (back-give (n + 1))))
 
--- r of length n reads what w writes of a list of length n without fault: so does the list with its length in front
-back-sized : {A : Type 0} (b a : Bool) (e : ℕ) (z : Size) (r : ℕ → Reader (List A)) (w : List A → List ℕ) (g : List A → ℕ) → keeps z ≡ b →
-    ((xs : List A) → g xs ≡ 0 → Back (r (length xs)) (w xs) xs) →
-    (x : Maybe b (List A)) → sizedFault b z g x ≡ 0 → Back (sized b a e (lengthOf unsigned z) r) (sizedBytes b z w x) x
+-- 11 is given where a length of two bytes cannot carry it; every other length carries what a body can hold
+carried : (z : Size) (n : ℕ) → tooLong z n ≡ 0 → n ≤ most → n < limit z
+unfolding tooLong
+carried (fixed w8 m) n h g = small-none _ _ 10 h
+carried (fixed w16 m) n h g = small-none _ _ 10 h
+carried (fixed w32 m) n h g = omega arith
+carried (fixed w64 m) n h g = omega arith
+carried (compact m) n h g = omega arith
+carried plain n h g = omega arith
+
+-- r of length n reads what w writes of a list of length n without fault, at least a byte for each: so does the list with its length in front
+back-sized : {A : Type 0} (b a : Bool) (e : ℕ) (z : Size) (r : ℕ → Reader (List A)) (w : List A → List ℕ) (g : List A → ℕ) → keeps z ≡ b → ((xs : List A) → length xs ≤ length (w xs)) →
+    ((xs : List A) → g xs ≡ 0 → length (w xs) ≤ most → Back (r (length xs)) (w xs) xs) →
+    (x : Maybe b (List A)) → sizedFault b z g x ≡ 0 → length (sizedBytes b z w x) ≤ most → Back (sized b a e (lengthOf unsigned z) r) (sizedBytes b z w x) x
 unfolding sized sizedBytes sizedFault
-back-sized true a e z r w g k h none o =
+back-sized true a e z r w g k few h none o m =
     back-last _ _ _ zero _ (unfold checked in (back-primitive _ _ _ (back-last _ _ _ zero _ (back-null z k) (back-true _ _ _ _ _ refl (back-true _ _ _ _ _ refl (back-give zero))))))
     (back-true _ _ _ _ _ refl (back-give none))
-back-sized true a e z r w g k h (some xs) o =
+back-sized true a e z r w g k few h (some xs) o m =
     let f = or-none _ _ o in
-    back-then _ _ _ _ (length xs + 1) _ (back-some true e z (length xs) (small-none _ _ 10 (f .0)))
-    (back-false _ _ _ _ _ (one-more (length xs)) (back-map _ _ _ _ (back-less r _ _ _ (h xs (f .1)))))
-back-sized false a e z r w g k h xs o =
+    let s = append-most (lengthBytes z (length xs)) (w xs) m .1 in
+    back-then _ _ _ _ (length xs + 1) _ (back-some true e z (length xs) (carried z (length xs) (f .0) (let l = few xs in omega arith)))
+    (back-false _ _ _ _ _ (one-more (length xs)) (back-map _ _ _ _ (back-less r _ _ _ (h xs (f .1) s))))
+back-sized false a e z r w g k few h xs o m =
     let f = or-none _ _ o in
-    back-then _ _ _ _ (length xs + 1) _ (back-some a e z (length xs) (small-none _ _ 10 (f .0))) (back-less r _ _ _ (h xs (f .1)))
+    let s = append-most (lengthBytes z (length xs)) (w xs) m .1 in
+    back-then _ _ _ _ (length xs + 1) _ (back-some a e z (length xs) (carried z (length xs) (f .0) (let l = few xs in omega arith))) (back-less r _ _ _ (h xs (f .1) s))
+
+-- ---- everything written has a byte at least
+
+shortest-long : (k n : ℕ) → 1 ≤ length (shortest k n)
+unfolding shortest
+shortest-long zero n = omega (arith, length-bytes 1 n)
+shortest-long (suc k) n = go (ltb n 128)
+  where
+    go : (b : Bool) → 1 ≤ length (cond b (bytes 1 n) (bytes 1 (128 + n % 128) ++ shortest k (n / 128)))
+    go true = omega (arith, length-bytes 1 n)
+    go false = omega (arith, length-append (bytes 1 (128 + n % 128)) (shortest k (n / 128)), length-bytes 1 (128 + n % 128))
+
+width-long : (w : Width) (n : ℕ) → 1 ≤ length (bytes (size w) n)
+width-long w8 n = omega (arith, length-bytes 1 n)
+width-long w16 n = omega (arith, length-bytes 2 n)
+width-long w32 n = omega (arith, length-bytes 4 n)
+width-long w64 n = omega (arith, length-bytes 8 n)
+
+length-long : (z : Size) (n : ℕ) → 1 ≤ length (lengthBytes z n)
+unfolding lengthBytes unsignedBytes
+length-long (fixed w m) n = width-long w n
+length-long (compact m) n = shortest-long 9 (n + 1)
+length-long plain n = shortest-long 9 n
+
+sized-long : {A : Type 0} (z : Size) (w : List A → List ℕ) (x : Maybe (keeps z) (List A)) → 1 ≤ length (sizedBytes (keeps z) z w x)
+unfolding sizedBytes nullBytes unsignedBytes
+sized-long {A} z w x = go z (keeps z) refl x
+  where
+    front : (z : Size) (xs : List A) → 1 ≤ length (lengthBytes z (length xs) ++ w xs)
+    front z xs = let a = length-long z (length xs) in omega (arith, length-append (lengthBytes z (length xs)) (w xs))
+
+    go : (z : Size) (b : Bool) → keeps z ≡ b → (x : Maybe b (List A)) → 1 ≤ length (sizedBytes b z w x)
+    go (fixed v m) true e none = width-long v (2 ^ bits v - 1)
+    go (compact m) true e none = shortest-long 9 0
+    go plain true e none = let z : _≡_ {A = ℕ} 0 1 = cc in absurd (omega arith)
+    go z true e (some xs) = front z xs
+    go z false e xs = front z xs
+
+basic-long : (k : Basic) (x : BasicValue (List ℕ) k) → 1 ≤ length (writeBasic k x)
+unfolding writeBasic flagBytes unsignedBytes
+basic-long (number w) x = width-long w x
+basic-long boolean x = width-long w8 (cond x 1 0)
+basic-long level x = width-long w8 x
+basic-long natural x = shortest-long 9 x
+basic-long (text z) x = sized-long z (λ y. y) x
+basic-long (blob z) x = sized-long z (λ y. y) x
+basic-long (optional d k) x = basic-long k x
+
+write-long : (l : Shape) → Eats l → (x : Value (List ℕ) l) → 1 ≤ length (write l x)
+unfolding write
+write-long end h x = absurd h
+write-long (field k r) h x = let a = basic-long k (x .0) in omega (arith, length-append (writeBasic k (x .0)) (write r (x .1)))
+write-long (absent k r) h x = write-long r h x
+write-long (array z t i r) h x = let a = sized-long z (λ xs. each (write i) xs) (x .0) in omega (arith, length-append (sizedBytes (keeps z) z (λ xs. each (write i) xs) (x .0)) (write r (x .1)))
+write-long (lacking z t i r) h x = write-long r h x
+
+each-long : {A : Type 0} (w : A → List ℕ) → ((x : A) → 1 ≤ length (w x)) → (xs : List A) → length xs ≤ length (each w xs)
+unfolding each
+each-long w h [] = omega arith
+each-long w h (x ∷ xs) = let a = h x in let b = each-long w h xs in omega (arith, length-append (w x) (each w xs))
 
 module _ (q : Bool) where
-  back-text : (b : List ℕ) → unless (utf8 b) 7 ≡ 0 → Back (readText (byBytes q) (length b)) b b
+  back-text : (b : List ℕ) → unless (utf8 b) 7 ≡ 0 → length b ≤ most → Back (readText (byBytes q) (length b)) b b
   unfolding readText
-  back-text b h = back-here _ _ _ (λ p. back-last _ _ b b b (back-raw b) (back-true _ _ _ _ _ (unless-none _ 6 h) (back-give b)))
+  back-text b h m = back-here _ _ _ (λ p. back-last _ _ b b b (back-raw b) (back-true _ _ _ _ _ (unless-none _ 6 h) (back-give b)))
 
   back-blob : (b : List ℕ) → Back (readBlob (byBytes q) (length b)) b b
   unfolding readBlob
   back-blob b = back-here _ _ _ (λ p. back-map _ _ b b (back-raw b))
 
-  back-basic : (k : Basic) (x : BasicValue (List ℕ) k) → basicFault k x ≡ 0 → Back (readBasic (byBytes q) k) (writeBasic k x) x
+  back-basic : (k : Basic) (x : BasicValue (List ℕ) k) → basicFault k x ≡ 0 → length (writeBasic k x) ≤ most → Back (readBasic (byBytes q) k) (writeBasic k x) x
   unfolding readBasic writeBasic basicFault flag flagBytes
-  back-basic (number w) x h = back-cell w x (unless-none _ 10 h)
-  back-basic boolean true h = back-map (int 1) (λ n. ltb 0 n) (bytes 1 1) 1 (back-int 1 1 (lit< tt))
-  back-basic boolean false h = back-map (int 1) (λ n. ltb 0 n) (bytes 1 0) 0 (back-int 1 0 (lit< tt))
-  back-basic level x h = back-cell w8 x (back-level x (of-le x 1 (unless-none _ 10 h)))
-  back-basic natural x h = back-unsigned x (small-none _ _ 10 h)
-  back-basic (text z) x h = back-primitive _ _ _ (back-sized (keeps z) _ _ z _ _ _ refl back-text x h)
-  back-basic (blob z) x h = back-primitive _ _ _ (back-sized (keeps z) _ _ z _ _ (λ y. 0) refl (λ y u. back-blob y) x h)
-  back-basic (optional d k) x h = back-basic k x h
+  back-basic (number w) x h m = back-cell w x (unless-none _ 10 h)
+  back-basic boolean true h m = back-map (int 1) (λ n. ltb 0 n) (bytes 1 1) 1 (back-int 1 1 (lit< tt))
+  back-basic boolean false h m = back-map (int 1) (λ n. ltb 0 n) (bytes 1 0) 0 (back-int 1 0 (lit< tt))
+  back-basic level x h m = back-cell w8 x (back-level x (of-le x 1 (unless-none _ 10 h)))
+  back-basic natural x h m = back-unsigned x (small-none _ _ 10 h)
+  back-basic (text z) x h m = back-primitive _ _ _ (back-sized (keeps z) _ _ z _ (λ y. y) _ refl (λ y. omega arith) back-text x h m)
+  back-basic (blob z) x h m = back-primitive _ _ _ (back-sized (keeps z) _ _ z _ (λ y. y) (λ y. 0) refl (λ y. omega arith) (λ y u v. back-blob y) x h m)
+  back-basic (optional d k) x h m = back-basic k x h m
 
-  -- the theorem, for every shape: what is written without fault reads back, in a whole read too
-  pub back-read : (l : Shape) (x : Value (List ℕ) l) → fault l x ≡ 0 → Back (read (byBytes q) l) (write l x) x
+  -- the theorem, for every shape: what is written without fault and within the limit reads back, in a whole read too
+  pub back-read : (l : Shape) (x : Value (List ℕ) l) → Eating l → fault l x ≡ 0 → length (write l x) ≤ most → Back (read (byBytes q) l) (write l x) x
   unfolding read write fault
-  back-read end x h = back-give tt
-  back-read (field k r) x h = let o = or-none _ _ h in back-pair _ _ _ _ _ (back-basic k (x .0) (o .0)) (back-read r (x .1) (o .1))
-  back-read (absent k r) x h = back-read r x h
-  back-read (array z t i r) x h =
+  back-read end x a h m = back-give tt
+  back-read (field k r) x a h m =
       let o = or-none _ _ h in
-      back-pair _ _ _ _ _ (back-sized (keeps z) _ _ z _ _ _ refl (back-many (read (byBytes q) i) (write i) (fault i) (back-read i)) (x .0) (o .0)) (back-read r (x .1) (o .1))
-  back-read (lacking z t i r) x h = back-read r x h
+      let s = append-most (writeBasic k (x .0)) (write r (x .1)) m in
+      back-pair _ _ _ _ _ (back-basic k (x .0) (o .0) (s .0)) (back-read r (x .1) a (o .1) (s .1))
+  back-read (absent k r) x a h m = back-read r x a h m
+  back-read (array z t i r) x a h m =
+      let o = or-none _ _ h in
+      let s = append-most (sizedBytes (keeps z) z (λ xs. each (write i) xs) (x .0)) (write r (x .1)) m in
+      back-pair _ _ _ _ _
+      (back-sized (keeps z) _ _ z _ (λ xs. each (write i) xs) _ refl (each-long (write i) (write-long i (a .0))) (back-many (read (byBytes q) i) (write i) (fault i) (λ y. back-read i y (a .1))) (x .0) (o .0) (s .0))
+      (back-read r (x .1) (a .2) (o .1) (s .1))
+  back-read (lacking z t i r) x a h m = back-read r x a h m

@@ -1,19 +1,19 @@
 -- What was read has no fault: it can be written again. For every shape without an isolation level.
-use mathlib.Core.Bool.{Bool, false, true}
+use mathlib.Core.Bool.{Bool, cond, false, true}
 use mathlib.Core.List.{List, [], _∷_}
 use mathlib.Core.Option.{none, some}
 use mathlib.Core.Path.{_∙_, _≡_, ap, refl, subst, sym}
 use Prim.Native.Nat.{_+_, _-_, _<_, _^_, _≤_, suc, zero, ℕ}
 use native.Mathlib.Omega.{arith}
-use lib.Dec.{ltb}
+use lib.Dec.{leb, ltb}
 use lib.ListN.{drop, length}
 use lib.Seq.{length-take-le}
 use Rattle.layout.specs.Reading.{Reader, fail, give, here, many, ok, pair, pick, primitive, raw, then}
 use Rattle.layout.specs.Utf8.{utf8}
-use Rattle.layout.specs.Primitives.{Size, Width, bits, cell, checked, compact, fixed, holds, int, keeps, lengthOf, limit, minus, never, plain, size, sized, unsigned, w16}
-use Rattle.layout.specs.Rows.{Basic, Shape, absent, array, blob, boolean, end, field, lacking, level, natural, number, optional, text}
+use Rattle.layout.specs.Primitives.{Null, Size, Width, bits, cell, checked, compact, fixed, holds, int, keeps, lengthOf, limit, minus, never, plain, size, sized, unsigned, w16, w32}
+use Rattle.layout.specs.Rows.{Basic, BasicValue, Shape, Value, absent, array, blob, boolean, end, field, lacking, level, natural, number, optional, text}
 use Rattle.layout.specs.Read.{byBytes, read, readBasic, readBlob, readText}
-use Rattle.layout.specs.Write.{basicFault, fault, firstOf, or, sizedFault, unless}
+use Rattle.layout.specs.Write.{basicFault, fault, firstOf, or, sizedFault, tooLong, unless}
 use Rattle.layout.proofs.Tests.{lt-false, lt-true, of-lt}
 use Rattle.layout.proofs.Cells.{extend, extend-holds, powers}
 use Rattle.layout.proofs.Canon.{Bytes, bytes-drop, canon-int}
@@ -76,12 +76,37 @@ yields-cell : (w : Width) → Yields (cell w) (λ c. unless (holds w c) 11 ≡ 0
 unfolding cell
 yields-cell w = yields-then _ _ (λ n. n < 256 ^ size w) _ (yields-int (size w)) (λ n h. yields-give (extend w n) _ (unless-true _ 11 (extend-holds w n (let p = powers w in omega (arith, p .power)))))
 
+-- ---- which fault is told
+
+-- the first in field order, whatever stands after it; of an array, that of its first item that has one
+pub first-field : (k : Basic) (r : Shape) (x : BasicValue (List ℕ) k) (y : Value (List ℕ) r) (e : ℕ) → basicFault k x ≡ suc e → fault (field k r) (x, y) ≡ suc e
+unfolding fault or
+first-field k r x y e h = rw h
+
+pub first-item : {A : Type 0} (g : A → ℕ) (x : A) (xs : List A) (e : ℕ) → g x ≡ suc e → firstOf g (x ∷ xs) ≡ suc e
+unfolding firstOf or
+first-item g x xs e h = rw h
+
 -- ---- lengths
 
 -- a STRING has 32,767 bytes at most; what is longer is 11, whatever its bytes are
 pub string-too-long : (y : List ℕ) → 32767 < length y → basicFault (text (fixed w16 never)) y ≡ 11
-unfolding basicFault sizedFault or unless
+unfolding basicFault sizedFault tooLong or unless
 string-too-long y h = rw (lt-false (length y) 32768 h)
+
+-- data of any length have no 11, and so no list of items has one of its own
+pub data-never-too-long : (m : Null) (n : ℕ) → tooLong (fixed w32 m) n ≡ 0
+unfolding tooLong
+data-never-too-long m n = refl
+
+-- a length that can be carried is never too long
+not-long : (z : Size) (n : ℕ) → n < limit z → tooLong z n ≡ 0
+unfolding tooLong
+not-long z n h = go (leb (limit z) 32768)
+  where
+    go : (b : Bool) → cond b (unless (ltb n (limit z)) 11) 0 ≡ 0
+    go true = unless-true _ 11 (lt-true n (limit z) h)
+    go false = refl
 
 -- one more than a length that can be carried, at most
 yields-length : (z : Size) → Yields (lengthOf unsigned z) (λ n. n ≤ limit z)
@@ -105,13 +130,13 @@ unfolding sized sizedFault
 yields-sized {A} true a e z r g h =
     yields-then _ _ (λ n. n ≤ limit z) _ (yields-checked true e z)
     (λ n k. yields-pick _ _ _ _ (λ d. yields-give none _ refl) (λ d. yields-then (r (n - 1)) _ (λ xs. (length xs ≡ n - 1) × (g xs ≡ 0)) _ (h (n - 1))
-    (λ xs j. yields-give (some xs) _ (or-both _ _ (unless-true _ 11 (lt-true _ _ (subst (λ (m : ℕ). m < limit z) (sym (j .0)) (less-limit z n k)))) (j .1)))))
+    (λ xs j. yields-give (some xs) _ (or-both _ _ (not-long z _ (subst (λ (m : ℕ). m < limit z) (sym (j .0)) (less-limit z n k))) (j .1)))))
 yields-sized {A} false a e z r g h =
     yields-then _ _ (λ n. n ≤ limit z) _ (yields-checked a e z)
     (λ n k. record {
       law = λ p s xs m b d.
           let j = h (n - 1) .law p s xs m b d in
-          or-both _ _ (unless-true _ 11 (lt-true _ _ (subst (λ (m : ℕ). m < limit z) (sym (j .0)) (less-limit z n k)))) (j .1);
+          or-both _ _ (not-long z _ (subst (λ (m : ℕ). m < limit z) (sym (j .0)) (less-limit z n k))) (j .1);
     })
 
 -- no isolation level: the reader takes any Int8

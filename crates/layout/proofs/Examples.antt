@@ -11,7 +11,7 @@ use Rattle.layout.specs.Utf8.{begins, characters, first, utf8, wellForme
 use Rattle.layout.specs.Primitives.{bytes, cell, checked, compact, fixed, flag, flagBytes, groups, holds, int, integer, integerBytes, kept, lengthBytes, lengthOf, minus, never, nullBytes, shortest, signed, sized, sizedBytes, unsigned, unsignedBytes, unzigzag, varint, varlong, w16, zigzag, zigzagBytes}
 use Rattle.layout.specs.Rows.{Basic, at, blob, end, field, standing, stands, tagRows, text}
 use Rattle.layout.specs.Read.{readBasic, readBlob, readText}
-use Rattle.layout.specs.Write.{basicFault, each, fault, firstOf, or, sizedFault, unless, write, writeBasic}
+use Rattle.layout.specs.Write.{basicFault, each, fault, firstOf, or, sizedFault, tooLong, unless, write, writeBasic}
 use Rattle.layout.specs.Tables.{Tables, absentCells, addsUp, all, append, arrays, asked, basicOf, cells, chosen, chunks, count, countCell, firstRow, from, good, goodCells, goodCount, goodRow, goodSpan, inside, itemsOf, kindIn, kindOf, pop, readRows, rowWidth, rowsAt, rowsOf, slice, span, spanOf, sum, times, valueOf, width}
 use Rattle.layout.specs.Answers.{Answer, accepted, body, laid, made, meant, needed, prefixRead, readAnswer, refused, seen, shape, tagsAlone, wholeRead, widths, writeAnswer}
 use Rattle.layout.specs.Agreement as Agreement
@@ -209,7 +209,7 @@ unfolding then give fail pick here primitive raw pair many loop
     within characters begins first wellFormedFrom wellFormed utf8
     int bytes signed integer integerBytes cell holds flag flagBytes groups unsigned shortest unsignedBytes zigzag unzigzag varlong varint zigzagBytes lengthOf lengthBytes nullBytes checked sized sizedBytes
     at stands standing tagRows readBlob readText readBasic
-    each writeBasic write or unless firstOf sizedFault basicFault fault
+    each writeBasic write or unless firstOf tooLong sizedFault basicFault fault
     span cells width absentCells countCell readRows append pop count times itemsOf chosen slice spanOf basicOf valueOf rowWidth arrays kindIn kindOf chunks rowsOf firstRow rowsAt from all sum goodCount asked inside goodSpan goodCells goodRow addsUp good
     shape seen widths needed laid readAnswer prefixRead wholeRead meant body made writeAnswer
     Agreement.negative Agreement.smaller Agreement.reaches Agreement.highest Agreement.agreed Agreement.agreement Lookup.lookup

@@ -3,6 +3,7 @@ use mathlib.Core.Bool.{Bool}
 use mathlib.Core.List.{List, [], append-nil}
 use mathlib.Core.Path.{_∙_, _≡_, ap, refl, subst, sym}
 use Prim.Native.Nat.{_+_, _<_, _≤_, ℕ}
+use native.Mathlib.Omega.{arith}
 use lib.ListN.{length, length-replicate, replicate}
 use Rattle.layout.specs.Reading.{Res, bad, ok}
 use Rattle.layout.specs.Primitives.{minus}
@@ -10,7 +11,7 @@ use Rattle.layout.specs.Rows.{Shape, Value}
 use Rattle.layout.specs.Read.{byBytes, byPlace, read}
 use Rattle.layout.specs.Write.{fault, write}
 use Rattle.layout.specs.Tables.{Span, Tables, append, readRows, slice, valueOf}
-use Rattle.layout.specs.Answers.{meant}
+use Rattle.layout.specs.Answers.{meant, most}
 use Rattle.layout.proofs.Back.{back-read}
 use Rattle.layout.proofs.Codecs.{Text, by-bytes, by-place, byBoth, bytesOf, mapValue, placeOf}
 use Rattle.layout.proofs.Decode.{takes}
@@ -59,7 +60,7 @@ lays q l N msg x n first names eats small e = go (read (byBoth q) l 0 msg) refl 
     go (bad w) d c = not-ok c
 
 -- the theorem: a value without fault, written, is read whole, with every byte used, into tables that mean it
-pub round-trip : (q : Bool) (l : Shape) (N : ℕ) (x : Value (List ℕ) l) → 0 < N → Within N l → Eating l → length (write l x) < minus → fault l x ≡ 0 → Laid q l N (write l x) x (length (write l x))
+pub round-trip : (q : Bool) (l : Shape) (N : ℕ) (x : Value (List ℕ) l) → 0 < N → Within N l → Eating l → length (write l x) ≤ most → fault l x ≡ 0 → Laid q l N (write l x) x (length (write l x))
 round-trip q l N x first names eats small z =
-    lays q l N (write l x) x (length (write l x)) first names eats small
-    (subst (λ (u : List ℕ). read (byBytes q) l 0 u ≡ ok x (length (write l x))) (append-nil (write l x)) (back-read q l x z .law 0 []))
+    lays q l N (write l x) x (length (write l x)) first names eats (omega arith)
+    (subst (λ (u : List ℕ). read (byBytes q) l 0 u ≡ ok x (length (write l x))) (append-nil (write l x)) (back-read q l x eats z small .law 0 []))

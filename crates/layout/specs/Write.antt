@@ -44,11 +44,15 @@ unfoldable pub firstOf : {A : Type 0} → (A → ℕ) → List A → ℕ
 firstOf g [] = 0
 firstOf g (x ∷ xs) = or (g x) (firstOf g xs)
 
--- too long to be carried, or else a fault inside
+-- over 32,767, where the length has two bytes at most. What a wider length cannot carry is over the size of a body, and 2 by that
+unfoldable pub tooLong : Size → ℕ → ℕ
+tooLong z n = cond (leb (limit z) 32768) (unless (ltb n (limit z)) 11) 0
+
+-- too long, or else a fault inside
 unfoldable pub sizedFault : {A : Type 0} (b : Bool) → Size → (List A → ℕ) → Maybe b (List A) → ℕ
 sizedFault true z g none = 0
-sizedFault true z g (some xs) = or (unless (ltb (length xs) (limit z)) 11) (g xs)
-sizedFault false z g xs = or (unless (ltb (length xs) (limit z)) 11) (g xs)
+sizedFault true z g (some xs) = or (tooLong z (length xs)) (g xs)
+sizedFault false z g xs = or (tooLong z (length xs)) (g xs)
 
 unfoldable pub basicFault : (k : Basic) → BasicValue (List ℕ) k → ℕ
 basicFault (number w) n = unless (holds w n) 11

@@ -1,6 +1,4 @@
--- names judged, and written one behind the other
-pub mod Names
--- what the definition of writing comes to
-pub mod Meant
+-- a request part by part, and the answer to the call
+pub mod Request
 -- a promise determines reply and output
 pub mod Unique

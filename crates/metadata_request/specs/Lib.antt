@@ -1,4 +1,4 @@
 -- what the request says in the definition's words
 pub mod Answers
--- a request to write, field by field
-pub mod Parts
+-- the layout of a version
+pub mod Shapes

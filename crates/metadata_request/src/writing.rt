@@ -1,15 +1,19 @@
 // The body of a Metadata request, versions 0 to 4: an array of names, or null, and from version 4 on whether topics may be created.
+ghost use mathlib.Core.Bool.{false, true};
 ghost use mathlib.Core.Path.{_≡_};
 ghost use mathlib.Core.List.{[], _∷_};
 ghost use lib.ListN.{getD, length};
 ghost use Prim.Native.Nat.{_/_, _<_};
 ghost use Rattle.layout.specs.Answers.{writeAlone, writeAnswer};
 ghost use Rattle.layout.specs.Messages.Metadata as Meta;
+ghost use Rattle.layout.specs.Primitives.{fixed, kept, w32};
+ghost use Rattle.layout.specs.Tables as Tables;
 ghost use Rattle.layout.specs.Tables.{rowsOf};
 ghost use Rattle.rows.specs.Step.{Capped};
+ghost use Rattle.rows.specs.Writes.{bytesAt, countedBytes, refusalOf, rowBytes, rowsBytes};
 ghost use Rattle.writers.specs.Answers.{replied};
 ghost use Rattle.metadata_request.specs.Answers.{ofRequest};
-ghost use Rattle.metadata_request.specs.Parts.{arrayBytes, creationBytes, flagOf, nameBytes, namesBytes, requestBytes, requestFault, topicsBytes};
+ghost use Rattle.metadata_request.specs.Shapes.{creationShape, flagOf, lentRows, nameShape, requestShape, setTo, topicsShape};
 use crate::Creation;
 use crate::RequestBody;
 use crate::judge::refusal;
@@ -27,7 +31,7 @@ use writers::Written;
 
 fn name(out: &mut [u8], lent: &[u8], topics: &[u64], i: usize) -> usize
     requires { ⌜ i < length (now topics) / 2 ⌝ }
-    ensures { λ r. ⌜ Capped (nameBytes (now (lent .entry)) (getD (rowsOf 2 (now (topics .entry))) i [])) (now (out .entry)) r (now (out .exit)) ⌝ }
+    ensures { λ r. ⌜ Capped (rowBytes (now (lent .entry)) nameShape (getD (rowsOf 2 (now (topics .entry))) i [])) (now (out .entry)) r (now (out .exit)) ⌝ }
 {
     put::sized(
         out,
@@ -38,7 +42,7 @@ fn name(out: &mut [u8], lent: &[u8], topics: &[u64], i: usize) -> usize
 
 // Name behind name.
 fn names(out: &mut [u8], lent: &[u8], topics: &[u64]) -> usize
-    ensures { λ r. ⌜ Capped (namesBytes (now (lent .entry)) (now (topics .entry))) (now (out .entry)) r (now (out .exit)) ⌝ }
+    ensures { λ r. ⌜ Capped (rowsBytes (now (lent .entry)) nameShape 2 (now (topics .entry))) (now (out .entry)) r (now (out .exit)) ⌝ }
 {
     let n = topics.len() / 2;
     let mut done: usize = 0;
@@ -54,7 +58,7 @@ fn names(out: &mut [u8], lent: &[u8], topics: &[u64]) -> usize
 
 // The names behind their number.
 fn array(out: &mut [u8], lent: &[u8], topics: &[u64]) -> usize
-    ensures { λ r. ⌜ Capped (arrayBytes (now (lent .entry)) (now (topics .entry))) (now (out .entry)) r (now (out .exit)) ⌝ }
+    ensures { λ r. ⌜ Capped (countedBytes (now (lent .entry)) nameShape (fixed w32 kept) 2 (now (topics .entry))) (now (out .entry)) r (now (out .exit)) ⌝ }
 {
     let a = put::length(out, Form::Int32, (topics.len() / 2) as u64);
     let p = put::behind(a, out.len());
@@ -64,7 +68,8 @@ fn array(out: &mut [u8], lent: &[u8], topics: &[u64]) -> usize
 
 // A count of -1 is null, which is not the same as no names.
 fn asked(out: &mut [u8], lent: &[u8], count: u64, topics: &[u64]) -> usize
-    ensures { λ r. ⌜ Capped (topicsBytes (now (lent .entry)) count (now (topics .entry))) (now (out .entry)) r (now (out .exit)) ⌝ }
+    requires { ⌜ Tables.count count ≡ length (now topics) / 2 ⌝ }
+    ensures { λ r. ⌜ Capped (bytesAt (now (lent .entry)) topicsShape 0 ((count ∷ []) ∷ now (topics .entry) ∷ [])) (now (out .entry)) r (now (out .exit)) ⌝ }
 {
     if count == 18446744073709551615 {
         return put::null(out, Form::Int32);
@@ -74,7 +79,7 @@ fn asked(out: &mut [u8], lent: &[u8], count: u64, topics: &[u64]) -> usize
 
 // Auto-creation, where the version has it.
 fn creation(out: &mut [u8], has: bool, flag: bool) -> usize
-    ensures { λ r. ⌜ Capped (creationBytes has flag) (now (out .entry)) r (now (out .exit)) ⌝ }
+    ensures { λ r. ⌜ Capped (rowBytes [] (creationShape has) (setTo flag)) (now (out .entry)) r (now (out .exit)) ⌝ }
 {
     if has {
         return put::boolean(out, flag);
@@ -83,7 +88,8 @@ fn creation(out: &mut [u8], has: bool, flag: bool) -> usize
 }
 
 fn body(out: &mut [u8], has: bool, lent: &[u8], count: u64, flag: bool, topics: &[u64]) -> usize
-    ensures { λ r. ⌜ Capped (requestBytes has (now (lent .entry)) count flag (now (topics .entry))) (now (out .entry)) r (now (out .exit)) ⌝ }
+    requires { ⌜ Tables.count count ≡ length (now topics) / 2 ⌝ }
+    ensures { λ r. ⌜ Capped (bytesAt (now (lent .entry)) (requestShape has) 0 (lentRows count flag (now (topics .entry)))) (now (out .entry)) r (now (out .exit)) ⌝ }
 {
     let a = asked(out, lent, count, topics);
     let p = put::behind(a, out.len());
@@ -102,7 +108,7 @@ fn written(
     flag: bool,
     topics: &[u64],
 ) -> Written
-    ensures { λ r. ⌜ replied r (now (out .exit)) ≡ writeAlone (requestFault (now (lent .entry)) (length (now (lent .entry))) count (now (topics .entry))) (requestBytes has (now (lent .entry)) count flag (now (topics .entry))) (now (out .entry)) ⌝ }
+    ensures { λ r. ⌜ replied r (now (out .exit)) ≡ writeAlone (refusalOf (now (lent .entry)) 1 (requestShape false) (requestShape false) (lentRows count true (now (topics .entry)))) (bytesAt (now (lent .entry)) (requestShape has) 0 (lentRows count flag (now (topics .entry)))) (now (out .entry)) ⌝ }
 {
     let e = refusal(lent, count, topics);
     if e != 0 {

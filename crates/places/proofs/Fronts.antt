@@ -7,7 +7,7 @@ use native.Mathlib.Nat.{add-zero, le-refl}
 use native.Mathlib.Omega.{arith}
 use lib.Dec.{ltb}
 use lib.ListN.{drop, getD, length, length-drop, take}
-use lib.Seq.{getD-drop, length-take-le, take-take}
+use lib.Seq.{getD-drop, length-take-le, take-all, take-take}
 use Rattle.layout.specs.Reading.{Reader, Res, bad, because, fail, give, more, next, ok, pick, placed, primitive, then}
 use Rattle.layout.specs.Primitives.{Null, Width, be, cell, cellOf, checked, fixed, int, lengthOf, signed, size, unsigned}
 use Rattle.layout.proofs.Steps.{int-bad, int-ok, then-ok}
@@ -109,9 +109,13 @@ cell-at w s p h =
     (ap (more p) (then-ok (int (size w)) _ p (drop p s) (be 0 (take (size w) (drop p s))) (size w) (int-ok (size w) p (drop p s) (omega (arith, length-drop p s))))
     ∙ ap (λ (n : ℕ). ok (cellOf (signed w (be 0 (take (size w) (drop p s))))) (p + n)) (add-zero (size w)))
 
--- a varint of one byte
+-- a varint of one byte: at its place, and on the rest as code cuts it out
 pub byte-at : (s : List ℕ) (p b : ℕ) → b ≡ getD s p 0 → p < length s → b < 128 → ok b (p + 1) ≡ on unsigned s p
 byte-at s p b e h l =
     let d : b ≡ getD (drop p s) 0 0 = e ∙ sym (getD-drop p s 0 0 ∙ ap (λ (n : ℕ). getD s n 0) (add-zero p)) in
     let v : b ≡ 0 + b * 1 = omega arith in
     took-at unsigned still portable-unsigned s (drop p s) p refl b 1 (ap (λ (n : ℕ). ok n 1) v ∙ ended (drop p s) 1 0 0 b d (omega (arith, length-drop p s)) 9 (omega arith) (start (drop p s)) l)
+
+pub byte-cut : (s : List ℕ) (p b : ℕ) → b ≡ getD (take (length s - p) (drop p s)) 0 0 → p < length s → b < 128 → ok b (p + 1) ≡ on unsigned s p
+byte-cut s p b e h l =
+    byte-at s p b (e ∙ ap (λ (t : List ℕ). getD t 0 0) (take-all (length s - p) (drop p s) (omega (arith, length-drop p s))) ∙ getD-drop p s 0 0 ∙ ap (λ (n : ℕ). getD s n 0) (add-zero p)) h l

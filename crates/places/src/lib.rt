@@ -68,7 +68,8 @@ pub fn varint_at(s: &[u8], p: usize) -> Number
     ensures { λ r. ⌜ ofNumber r ≡ on unsigned (now (s .entry)) p ⌝ }
 {
     if p < s.len() {
-        let b = s[p];
+        let left = &s[p..];
+        let b = left[0];
         if b < 128 {
             return Number::Took {
                 value: b as u64,

@@ -14,3 +14,5 @@ pub mod Zigzag
 pub mod Unique
 -- versions
 pub mod Versions
+-- a Boolean as a number
+pub mod Set

@@ -1,9 +1,9 @@
 -- What the answers of the calls say in the definition's words: the number and values of docs/RULES.md for each case of each enum.
-use Prim.Native.Nat.{_%_, _*_, _+_, _<_, _^_, ℕ}
+use Prim.Native.Nat.{_%_, _*_, _+_, _<_, _^_, suc, zero, ℕ}
 use lib.Dec.{ltb}
 use lib.IntN.{negsuc, pos, ℤ}
 use lib.ListN.{length}
-use mathlib.Core.Bool.{Bool, cond}
+use mathlib.Core.Bool.{Bool, cond, false, true}
 use mathlib.Core.List.{List}
 use Rattle.layout.specs.Answers.{limited}
 use Rattle.layout.specs.Reading.{Res, bad, because, ok}
@@ -79,3 +79,8 @@ ofCarried (Number.Refused e) = bad (ofRefusal e)
 abbrev pub versionOf : ℤ → ℕ
 versionOf (pos n) = n
 versionOf (negsuc n) = 65536
+
+-- a Boolean as a number: 0 is false, any other number true
+unfoldable pub isSet : ℕ → Bool
+isSet zero = false
+isSet (suc n) = true

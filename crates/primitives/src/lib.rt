@@ -2,7 +2,7 @@
 // The calls on a number by itself, which judge the message's size too, are the crate `read_numbers`.
 ghost use mathlib.Core.Path.{_≡_};
 ghost use Rattle.layout.specs.Reading.{because};
-ghost use Rattle.primitives.specs.Answers.{noRoom, ofRefusal, versionOf};
+ghost use Rattle.primitives.specs.Answers.{isSet, noRoom, ofRefusal, versionOf};
 
 pub mod numbers;
 pub mod read;
@@ -90,4 +90,14 @@ pub fn version_of(version: i64) -> u64
         return 65536;
     }
     version as u64
+}
+
+// 0 is false, any other number true.
+pub fn is_set(n: u64) -> bool
+    ensures { λ r. ⌜ r ≡ isSet n ⌝ }
+{
+    if n == 0 {
+        return false;
+    }
+    true
 }

@@ -1,5 +1,4 @@
 -- Bytes copied, and what stands behind its length.
-use mathlib.Core.Bool.{false}
 use mathlib.Core.List.{List, _++_}
 use mathlib.Core.Path.{_∙_, _≡_, ap, ap₂, refl, subst, sym}
 use Prim.Native.Nat.{_+_, _-_, _<_, _≤_, ℕ}
@@ -9,7 +8,7 @@ use native.Mathlib.Omega.{arith}
 use borrow.Rule.Slice.PartMut.{midOf, putMid}
 use lib.ListN.{drop, getD, length, length-append, length-set, set}
 use lib.Seq.{paste, paste-suc, paste-zero, take-all}
-use Rattle.layout.specs.Primitives.{Size, compact, fixed, lengthBytes, plain, sizedBytes, w16, w32, w64, w8}
+use Rattle.layout.specs.Primitives.{Size, compact, fixed, lengthBytes, plain, w16, w32, w64, w8}
 use Rattle.layout.proofs.Back.{length-bytes}
 use Rattle.rows.specs.Step.{Step}
 use Rattle.rows.proofs.Step.{step-lent}
@@ -67,8 +66,3 @@ module _ (z : Size) (x d : List ℕ) where
   pub sized-none : {h : ℕ} → h ≡ length (lengthBytes z (length x)) → length d < h + length x → Put (behindLength z x) d (h + length x) d
   unfolding behindLength
   sized-none {h} i r = put-none _ d (h + length x) (omega (arith, length-append (lengthBytes z (length x)) x)) r
-
--- as layouts have it: a text or data that is never null
-pub behind-sized : (z : Size) (x : List ℕ) → behindLength z x ≡ sizedBytes false z (λ y. y) x
-unfolding behindLength sizedBytes
-behind-sized z x = refl

@@ -8,3 +8,5 @@ pub mod Lengths
 pub mod Parts
 -- rows that all have the same number of bytes
 pub mod Even
+-- rows as they are written: a text, an array behind its number, and null
+pub mod Rows

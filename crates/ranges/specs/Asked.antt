@@ -1,11 +1,11 @@
--- What is asked of lent rows, whatever their width: ranges inside the lent bytes, counts that add up, and the text that a row means. Assumes nothing.
+-- What is asked of lent rows, whatever their width: ranges inside the lent bytes, counts that add up, and the content of a text. Assumes nothing.
 use mathlib.Core.Bool.{Bool, _&&_}
 use mathlib.Core.List.{List}
 use Prim.Native.Nat.{suc, ℕ}
 use lib.Dec.{eqb, ltb}
 use lib.ListN.{getD, length}
 use Rattle.layout.specs.Primitives.{fixed, limit, never, w16}
-use Rattle.layout.specs.Tables.{all, count, goodCount, inside, rowsOf, slice, sum}
+use Rattle.layout.specs.Tables.{all, count, goodCount, inside, rowsOf, sum}
 use Rattle.layout.specs.Utf8.{utf8}
 use Rattle.layout.specs.Write.{or, unless}
 use Rattle.ranges.specs.declared.Row.{Row}
@@ -43,10 +43,6 @@ unfoldable pub tells : Bool → ℕ → ℕ → List (List ℕ) → Bool
 tells b at n rs = all (toldGood b at) rs && eqb (sum (told at) rs) n
 
 -- ---- text
-
--- the name of a row that begins with its range
-unfoldable pub nameOf : List ℕ → List ℕ → List ℕ
-nameOf lent r = slice lent (getD r 0 0, getD r 1 0)
 
 -- of the content of a STRING, 11 before 7; 0 is neither
 unfoldable pub stringFault : List ℕ → ℕ

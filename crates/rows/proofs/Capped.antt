@@ -1,5 +1,6 @@
 -- Steps of walks, whose counts stop above the limit: what a writer's step gives them, one behind another, and an array item by item.
-use mathlib.Core.List.{List, _++_}
+use mathlib.Core.Bool.{Bool, cond, false, true}
+use mathlib.Core.List.{List, [], _++_}
 use mathlib.Core.Path.{_∙_, _≡_, ap, subst, sym}
 use Prim.Native.Nat.{_+_, _-_, _<_, _≤_, min, ℕ}
 use native.Mathlib.Omega.{arith}
@@ -9,7 +10,7 @@ use lib.Seq.{take-all}
 use Rattle.layout.specs.Answers.{most}
 use Rattle.layout.specs.Write.{each}
 use Rattle.rows.specs.Step.{Capped, Step, cap}
-use Rattle.rows.proofs.Step.{each-next, each-none, step-behind}
+use Rattle.rows.proofs.Step.{each-next, each-none, step-behind, step-nothing}
 
 pub capped : {bs d d′ : List ℕ} {r : ℕ} → Step bs d r d′ → Capped bs d r d′
 capped s = record { count = ap cap (s .count); long = s .long; stored = λ h k. s .stored k }
@@ -17,6 +18,14 @@ capped s = record { count = ap cap (s .count); long = s .long; stored = λ h k. 
 -- the same bytes, said otherwise
 pub capped-as : {bs cs d d′ : List ℕ} {r : ℕ} → bs ≡ cs → Capped bs d r d′ → Capped cs d r d′
 capped-as {bs} {cs} {d} {d′} {r} e s = subst (λ (x : List ℕ). Capped x d r d′) e s
+
+-- bytes that a version may lack
+module _ (f : Bool) where
+  pub capped-there : f ≡ true → {bs d d′ : List ℕ} {r : ℕ} → Capped bs d r d′ → Capped (cond f bs []) d r d′
+  capped-there h s = rw h s
+
+  pub capped-lacking : f ≡ false → (bs d : List ℕ) → Capped (cond f bs []) d 0 d
+  capped-lacking h bs d = rw h (capped (step-nothing d))
 
 -- a count up to the limit is the bytes'; one over it says that they are over it
 module _ {bs d d′ : List ℕ} {r : ℕ} (s : Capped bs d r d′) where

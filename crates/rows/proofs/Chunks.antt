@@ -2,7 +2,7 @@
 use mathlib.Core.List.{List, [], _∷_}
 use mathlib.Core.Path.{_∙_, _≡_, ap, ap₂, refl, sym}
 use Prim.Native.Nat.{_*_, _+_, _-_, _/_, _<_, _≤_, suc, zero, ℕ}
-use native.Mathlib.Nat.{div-eq-of-lt, div-eq-sub-div, div-mul-le-self, mul-div-cancel, mul-le-mul-right}
+use native.Mathlib.Nat.{div-eq-sub-div, div-mul-le-self, mul-div-cancel, mul-le-mul-right}
 use native.Mathlib.Numerals.{add-one}
 use native.Mathlib.Omega.{arith}
 use lib.ListN.{drop, getD, length, length-drop, take}
@@ -39,7 +39,7 @@ pub row-cell : (w : ℕ) (table : List ℕ) (i : ℕ) → i < length table / w �
 unfolding rowsOf
 row-cell w table i h j k = ap (λ (r : List ℕ). getD r j 0) (chunk-at (length table / w) w table i h) ∙ getD-take w (drop (i * w) table) j 0 k ∙ getD-drop (i * w) table j 0
 
-drop-take : (w m k : ℕ) → k ≡ w + m → (cs : List ℕ) → drop w (take k cs) ≡ take m (drop w cs)
+pub drop-take : (w m k : ℕ) → k ≡ w + m → (cs : List ℕ) → drop w (take k cs) ≡ take m (drop w cs)
 drop-take zero m k e cs = let f : k ≡ m = omega arith in ap (λ (j : ℕ). take j cs) f
 drop-take (suc w) m zero e cs = absurd (omega arith)
 drop-take (suc w) m (suc k) e [] = sym (take-nil m)
@@ -62,11 +62,7 @@ rows-part n w cs h k =
     ap (λ (m : ℕ). chunks m w (take (n * w) cs)) (ap (λ (l : ℕ). l / w) (length-take-le (n * w) cs k) ∙ mul-div-cancel n h)
     ∙ chunks-part n w cs
 
--- row by row: a table that has one more, and one that has none
+-- a table that has a row more
 pub rows-first : (w : ℕ) (cs : List ℕ) → 0 < w → w ≤ length cs → rowsOf w cs ≡ take w cs ∷ rowsOf w (drop w cs)
 unfolding rowsOf chunks
 rows-first w cs h k = ap (λ (n : ℕ). chunks n w cs) (div-eq-sub-div h k ∙ add-one ((length cs - w) / w) ∙ ap (λ (n : ℕ). suc (n / w)) (sym (length-drop w cs)))
-
-pub rows-none : (w : ℕ) (cs : List ℕ) → length cs < w → rowsOf w cs ≡ []
-unfolding rowsOf chunks
-rows-none w cs h = ap (λ (n : ℕ). chunks n w cs) (div-eq-of-lt h)

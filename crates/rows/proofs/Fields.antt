@@ -9,9 +9,9 @@ use lib.Dec.{leb}
 use lib.ListN.{drop, length, take}
 use Rattle.layout.specs.Reading.{Reader, Refusal, Res, bad, because, give, next, ok, pair, raw, then}
 use Rattle.layout.specs.Primitives.{Width, cell, flag, int, unsigned, w8}
-use Rattle.layout.specs.Rows.{Basic, BasicValue, Shape, absent, blob, boolean, end, field, level, natural, number, optional, text}
+use Rattle.layout.specs.Rows.{Basic, BasicValue, Shape, blob, boolean, end, field, level, natural, number, optional, text}
 use Rattle.layout.specs.Read.{byPlace, read, readBasic}
-use Rattle.layout.specs.Tables.{Span, absentCells, cells, readRows}
+use Rattle.layout.specs.Tables.{Span, cells, readRows}
 use Rattle.layout.proofs.Every.{EveryBasic}
 use Rattle.layout.proofs.Local.{local-basic, local-flag, local-unsigned, not-ok}
 use Rattle.layout.proofs.Parts.{shown}
@@ -89,7 +89,3 @@ module _ (w : Bool) (k : Basic) (r : Shape) (o : ℕ) (st : State) (s : List ℕ
   pub field-took : (x : BasicValue Span k) (q : ℕ) (z : Res State) → ok x q ≡ on (readBasic (byPlace w) k) s p → z ≡ on (walk w r o (add o (cells k x) st)) s q → z ≡ on (walk w (field k r) o st) s p
   unfolding readRows
   field-took x q z e d = then-took (readBasic (byPlace w) k) _ s p e d
-
-  pub field-absent : (z : Res State) → z ≡ on (walk w r o (add o (absentCells k) st)) s p → z ≡ on (walk w (absent k r) o st) s p
-  unfolding readRows
-  field-absent z e = e

@@ -48,3 +48,7 @@ pub mod Rooms
 pub mod Turns
 -- rows of one table that take rows of another
 pub mod Taking
+-- the bytes and the first fault of what tables mean: a row with no arrays, its parts, and an array of such rows
+pub mod Writes
+-- rows that end with an array of rows of another table
+pub mod Nested

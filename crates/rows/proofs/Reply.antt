@@ -7,7 +7,7 @@ use Prim.Native.Nat.{_*_, _+_, _/_, _<_, _≤_, suc, zero, ℕ}
 use native.Mathlib.Nat.{add-zero, div-mul-le-self, le-of-eq, le-trans, mul-le-mul-right, zero-add}
 use native.Mathlib.Omega.{arith}
 use lib.Dec.{eqb, leb}
-use lib.IntN.{negsuc, pos}
+use lib.IntN.{pos}
 use lib.ListN.{drop, getD, length, replicate}
 use lib.Seq.{sets, sets-eq}
 use borrow.Author.Tests.{ne-eqb}
@@ -15,7 +15,7 @@ use Rattle.layout.specs.Reading.{Refusal, Res, bad, because, ok}
 use Rattle.layout.specs.Tables.{Tables, append, from, readRows, rowWidth}
 use Rattle.layout.specs.Answers as Answers
 use Rattle.layout.specs.Answers.{Message, accepted, laid, most, needed, prefixRead, readAnswer, refused, seen, shape, widths}
-use Rattle.layout.proofs.Calls.{Seen, need-is, read-answer, read-refused, seen-inv, tables-are, too-long, version-above, version-below}
+use Rattle.layout.proofs.Calls.{Seen, need-is, read-answer, read-refused, seen-inv, tables-are, too-long}
 use Rattle.layout.proofs.Contents.{joined-length, rows-wide, rowsIn}
 use Rattle.layout.proofs.Proper.{owed, proper, width-same, widthAt}
 use Rattle.layout.proofs.Tests.{le-true, lt-false, lt-true, of-le}
@@ -123,15 +123,9 @@ module _ (m : Message) (h : proper m ≡ true) (w : Bool) (v : ℕ) (s : List �
           read-answer m (pos v) s olds w (row ∷ st) q d n
           ∙ ap (λ y. (accepted row q, y)) (sym (filled-laid (widths m) olds st l (uncut row st q (l ∙ many) (seen-inv w m (pos v) s (row ∷ st) q d)) n))
 
--- ---- 1 and 2, before the bytes are looked at
+-- ---- 2, before the bytes are looked at
 
 module _ (m : Message) (w : Bool) (v : ℕ) (s : List ℕ) (olds : Tables) (c : Refusal) where
-  pub answers-below : c ≡ because 1 0 → (refused c, olds) ≡ readAnswer w m (negsuc v) olds s
-  answers-below e = sym (read-refused m (negsuc v) s olds w c (version-below w m v s ∙ ap bad (sym e)))
-
-  pub answers-above : c ≡ because 1 0 → m .last < v → (refused c, olds) ≡ readAnswer w m (pos v) olds s
-  answers-above e h = sym (read-refused m (pos v) s olds w c (version-above w m v s h ∙ ap bad (sym e)))
-
   pub answers-long : c ≡ because 2 0 → v ≤ m .last → most < length s → (refused c, olds) ≡ readAnswer w m (pos v) olds s
   answers-long e h l = sym (read-refused m (pos v) s olds w c (too-long w m v s h l ∙ ap bad (sym e)))
 

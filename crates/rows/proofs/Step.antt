@@ -86,20 +86,3 @@ module _ {A : Type 0} (w : A → List ℕ) where
   pub each-none : (xs : List A) (d : List ℕ) → Step (each w (take 0 xs)) d 0 d
   unfolding each
   each-none xs d = step-nothing d
-
-  -- all of them
-  pub each-all : (xs : List A) (i : ℕ) {d d′ : List ℕ} {n : ℕ} → length xs ≤ i → Step (each w (take i xs)) d n d′ → Step (each w xs) d n d′
-  each-all xs i h s = step-as (ap (each w) (take-all i xs h)) s
-
-  module _ (xs : List A) (i : ℕ) (z : A) (h : i < length xs) {d d₁ : List ℕ} {n m : ℕ} (s : Step (each w (take i xs)) d n d₁) where
-    -- i items stand there, and the next goes to the rest behind them
-    pub each-lent : {e : List ℕ} → n ≤ length d₁ → Step (w (getD xs i z)) (midOf n (length d₁ - n) d₁) m e → Step (each w (take (i + 1) xs)) d (n + m) (putMid n (length d₁ - n) d₁ e)
-    each-lent r t = step-as (each-next xs i z h) (step-lent s r t)
-
-    -- there is no room for i items already: the next is only counted
-    pub each-short : {e : List ℕ} → length d₁ < n → Step (w (getD xs i z)) [] m e → Step (each w (take (i + 1) xs)) d (n + m) (e ++ d₁)
-    each-short r t = step-as (each-next xs i z h) (step-short s r t)
-
-    -- both
-    pub each-behind : (at : ℕ) {e : List ℕ} → at ≡ min n (length d₁) → Step (w (getD xs i z)) (midOf at (length d₁ - at) d₁) m e → Step (each w (take (i + 1) xs)) d (n + m) (putMid at (length d₁ - at) d₁ e)
-    each-behind at r t = step-as (each-next xs i z h) (step-behind s at r t)

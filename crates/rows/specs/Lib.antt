@@ -4,3 +4,5 @@ pub mod Store
 pub mod Walk
 -- what is known of a message before any room is looked at
 pub mod Meter
+-- what a writer of a part of a body promises
+pub mod Writes

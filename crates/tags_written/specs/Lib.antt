@@ -1,2 +1,2 @@
--- the bytes of tagged fields, row by row
+-- the layout of tagged fields
 pub mod Tags

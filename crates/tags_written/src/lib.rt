@@ -7,11 +7,12 @@ ghost use lib.ListN.{getD, length};
 ghost use Prim.Native.Nat.{_/_, _<_};
 ghost use Rattle.layout.specs.Answers.{tagsAlone, writeAnswer};
 ghost use Rattle.layout.specs.Primitives.{plain};
-ghost use Rattle.layout.specs.Tables.{rowsOf};
+ghost use Rattle.layout.specs.Tables.{good, rowsOf};
 ghost use Rattle.rows.specs.Step.{Capped, Step};
+ghost use Rattle.rows.specs.Writes.{countedBytes, rowBytes, rowsBytes};
 ghost use Rattle.put.specs.Put.{behindLength};
 ghost use Rattle.writers.specs.Answers.{replied};
-ghost use Rattle.tags_written.specs.Tags.{rowBytes, rowsBytes, tagBytes, tagsBytes, tagsGood};
+ghost use Rattle.tags_written.specs.Tags.{tagShape, tagsShape};
 use primitives::BAD_TABLES;
 use primitives::MOST;
 use primitives::TOO_LONG;
@@ -27,7 +28,7 @@ use writers::Written;
 
 // The table has the rows that the count tells, and all data are inside.
 pub fn is_good(size: usize, count: u64, table: &[u64]) -> bool
-    ensures { λ r. ⌜ r ≡ tagsGood size count (now (table .entry)) ⌝ }
+    ensures { λ r. ⌜ r ≡ good size 1 (tagsShape 1) ((count ∷ []) ∷ now (table .entry) ∷ []) ⌝ }
 {
     if rows_told(count) != (table.len() / 3) as u64 {
         return false;
@@ -49,7 +50,7 @@ fn put_data(out: &mut [u8], content: &[u8]) -> usize
 
 // A tag, and n bytes of the lent ones from `start` on as its data.
 fn put_tag(out: &mut [u8], lent: &[u8], tag: u64, start: u64, n: u64) -> usize
-    ensures { λ r. ⌜ Capped (tagBytes (now (lent .entry)) tag start n) (now (out .entry)) r (now (out .exit)) ⌝ }
+    ensures { λ r. ⌜ Capped (rowBytes (now (lent .entry)) tagShape (tag ∷ start ∷ n ∷ [])) (now (out .entry)) r (now (out .exit)) ⌝ }
 {
     let a = put::unsigned_varint(out, tag);
     let p = put::behind(a, out.len());
@@ -59,14 +60,14 @@ fn put_tag(out: &mut [u8], lent: &[u8], tag: u64, start: u64, n: u64) -> usize
 
 fn put_row(out: &mut [u8], lent: &[u8], table: &[u64], i: usize) -> usize
     requires { ⌜ i < length (now table) / 3 ⌝ }
-    ensures { λ r. ⌜ Capped (rowBytes (now (lent .entry)) (getD (rowsOf 3 (now (table .entry))) i [])) (now (out .entry)) r (now (out .exit)) ⌝ }
+    ensures { λ r. ⌜ Capped (rowBytes (now (lent .entry)) tagShape (getD (rowsOf 3 (now (table .entry))) i [])) (now (out .entry)) r (now (out .exit)) ⌝ }
 {
     put_tag(out, lent, table[i * 3], table[i * 3 + 1], table[i * 3 + 2])
 }
 
 // Row behind row.
 fn put_tags(out: &mut [u8], lent: &[u8], table: &[u64]) -> usize
-    ensures { λ r. ⌜ Capped (rowsBytes (now (lent .entry)) (now (table .entry))) (now (out .entry)) r (now (out .exit)) ⌝ }
+    ensures { λ r. ⌜ Capped (rowsBytes (now (lent .entry)) tagShape 3 (now (table .entry))) (now (out .entry)) r (now (out .exit)) ⌝ }
 {
     let n = table.len() / 3;
     let mut done: usize = 0;
@@ -82,7 +83,7 @@ fn put_tags(out: &mut [u8], lent: &[u8], table: &[u64]) -> usize
 
 // The number of the table's rows, and all of them behind it.
 pub fn tag_buffer(out: &mut [u8], lent: &[u8], table: &[u64]) -> usize
-    ensures { λ r. ⌜ Capped (tagsBytes (now (lent .entry)) (now (table .entry))) (now (out .entry)) r (now (out .exit)) ⌝ }
+    ensures { λ r. ⌜ Capped (countedBytes (now (lent .entry)) tagShape plain 3 (now (table .entry))) (now (out .entry)) r (now (out .exit)) ⌝ }
 {
     let a = put::unsigned_varint(out, (table.len() / 3) as u64);
     let p = put::behind(a, out.len());

@@ -1,9 +1,10 @@
 -- The numbers of a partition: field by field, where all bytes are there, and where some are missing.
 use mathlib.Core.List.{List, [], _++_, _∷_}
 use mathlib.Core.Path.{_∙_, _≡_, ap, sym}
-use Prim.Native.Nat.{_+_, _<_, _≤_, ℕ}
+use Prim.Native.Nat.{_+_, _-_, _<_, _≤_, ℕ}
 use native.Mathlib.Omega.{arith}
-use lib.ListN.{length}
+use lib.ListN.{drop, length, take}
+use lib.Seq.{drop-drop}
 use Rattle.layout.specs.Reading.{Refusal, bad, because, ok}
 use Rattle.layout.specs.Primitives.{cell, w16, w32}
 use Rattle.layout.specs.Rows.{Shape, end, field, number}
@@ -20,7 +21,7 @@ use Rattle.rows.proofs.RowCells.{cells-end, cells-no, cells-took}
 use Rattle.topics.specs.Shapes.{partitionFront}
 use Rattle.topics.specs.Walks.{RowStored, ofPartitionRow}
 use Rattle.topics.specs.declared.partitions.PartitionRow.{PartitionRow}
-use Rattle.topics.proofs.Turned.{cell-missing}
+use Rattle.topics.proofs.Turned.{all-left, cell-missing, cell-on}
 
 module _ (s : List ℕ) (p : ℕ) where
   abbrev two : Shape
@@ -50,11 +51,21 @@ module _ (s : List ℕ) (p : ℕ) where
           (cells-took (a ∷ []) (number w32) one s q b u g _ (cells-took (a ∷ b ∷ []) (number w32) end s u c n e _ (cells-end (a ∷ b ∷ c ∷ []) s n)))
 
   -- all bytes are there
-  pub numbers-there : (a b c : ℕ) → ok a (p + 2) ≡ on (cell w16) s p → ok b (p + 2 + 4) ≡ on (cell w32) s (p + 2) → ok c (p + 6 + 4) ≡ on (cell w32) s (p + 6) → ok (a ∷ b ∷ c ∷ []) (p + 10) ≡ on (rowFrom [] partitionFront) s p
+  numbers-there : (a b c : ℕ) → ok a (p + 2) ≡ on (cell w16) s p → ok b (p + 2 + 4) ≡ on (cell w32) s (p + 2) → ok c (p + 6 + 4) ≡ on (cell w32) s (p + 6) → ok (a ∷ b ∷ c ∷ []) (p + 10) ≡ on (rowFrom [] partitionFront) s p
   numbers-there a b c d g h =
       let i : p + 6 ≡ p + 2 + 4 = omega arith in
       let j : p + 10 ≡ p + 6 + 4 = omega arith in
       numbers-took a (p + 2) d b (p + 6) (ap (λ (k : ℕ). ok b k) i ∙ g) c (p + 10) (ap (λ (k : ℕ). ok c k) j ∙ h)
+
+  -- each number on what the one before it left
+  abbrev left : List ℕ
+  left = take (length s - p) (drop p s)
+
+  left-from : (k : ℕ) → take (length left - k) (drop k left) ≡ drop (p + k) s
+  left-from k = all-left left k ∙ ap (drop k) (all-left s p) ∙ drop-drop k p s
+
+  pub numbers-left : (a b c : ℕ) → ok a 2 ≡ cell w16 0 left → ok b 4 ≡ cell w32 0 (take (length left - 2) (drop 2 left)) → ok c 4 ≡ cell w32 0 (take (length left - 6) (drop 6 left)) → ok (a ∷ b ∷ c ∷ []) (p + 10) ≡ on (rowFrom [] partitionFront) s p
+  numbers-left a b c d g h = numbers-there a b c (cell-on w16 s left p a (all-left s p) d) (cell-on w32 s _ (p + 2) b (left-from 2) g) (cell-on w32 s _ (p + 6) c (left-from 6) h)
 
   -- the first number that is not whole
   module _ (c : Refusal) where

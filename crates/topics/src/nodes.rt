@@ -59,7 +59,7 @@ fn nodes_in(s: &[u8], p: usize, count: u64, table: &mut [u64], mark: usize) -> F
     let mut row = mark;
     let mut place = p;
     while row < end {
-        table[row] = int32_there(s, place);
+        table[row] = int32_there(&s[place..]);
         row = row + 1;
         place = place + 4;
     }

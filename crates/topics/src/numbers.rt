@@ -1,7 +1,7 @@
-// Numbers whose bytes are known to be there. The bit of the sign is turned over before it is looked at: only then does the compiler take the bytes by one load.
+// Numbers at the front of what is left of a message, whose bytes are known to be there. The bit of the sign is turned over before it is looked at: only then does the compiler take the bytes by one load.
 ghost use mathlib.Core.Path.{_≡_};
-ghost use Prim.Native.Nat.{_+_, _<_, _≤_};
-ghost use lib.ListN.{drop, length, take};
+ghost use Prim.Native.Nat.{_<_, _≤_};
+ghost use lib.ListN.{length, take};
 ghost use Rattle.layout.specs.Primitives.{be, cell, fixed, kept, w16, w32};
 ghost use Rattle.layout.specs.Reading.{ok};
 ghost use Rattle.fields.specs.Answers.{counted, ofCount};
@@ -30,52 +30,52 @@ fn wide(x: u8) -> u64
 }
 
 // The number with the bit of its sign turned over.
-fn turned16(s: &[u8], p: usize) -> u64
-    requires { ⌜ p + 2 ≤ length (now s) ⌝ }
-    ensures { λ r. ⌜ Turned 32768 (be 0 (take 2 (drop p (now (s .entry))))) r ⌝ }
+fn turned16(rest: &[u8]) -> u64
+    requires { ⌜ 2 ≤ length (now rest) ⌝ }
+    ensures { λ r. ⌜ Turned 32768 (be 0 (take 2 (now (rest .entry)))) r ⌝ }
 {
-    let n = wide(s[p]) * 256 + wide(s[p + 1]);
+    let n = wide(rest[0]) * 256 + wide(rest[1]);
     (n + HALF16) % 65536
 }
 
-fn turned32(s: &[u8], p: usize) -> u64
-    requires { ⌜ p + 4 ≤ length (now s) ⌝ }
-    ensures { λ r. ⌜ Turned 2147483648 (be 0 (take 4 (drop p (now (s .entry))))) r ⌝ }
+fn turned32(rest: &[u8]) -> u64
+    requires { ⌜ 4 ≤ length (now rest) ⌝ }
+    ensures { λ r. ⌜ Turned 2147483648 (be 0 (take 4 (now (rest .entry)))) r ⌝ }
 {
-    let n = ((wide(s[p]) * 256 + wide(s[p + 1])) * 256 + wide(s[p + 2])) * 256 + wide(s[p + 3]);
+    let n = ((wide(rest[0]) * 256 + wide(rest[1])) * 256 + wide(rest[2])) * 256 + wide(rest[3]);
     (n + HALF32) % 4294967296
 }
 
-pub(crate) fn int16_there(s: &[u8], p: usize) -> u64
-    requires { ⌜ p + 2 ≤ length (now s) ⌝ }
-    ensures { λ r. ⌜ ok r (p + 2) ≡ on (cell w16) (now (s .entry)) p ⌝ }
+pub(crate) fn int16_there(rest: &[u8]) -> u64
+    requires { ⌜ 2 ≤ length (now rest) ⌝ }
+    ensures { λ r. ⌜ ok r 2 ≡ cell w16 0 (now (rest .entry)) ⌝ }
 {
-    let turned = turned16(s, p);
+    let turned = turned16(rest);
     if turned < HALF16 {
         return turned + FROM16;
     }
     turned - HALF16
 }
 
-pub(crate) fn int32_there(s: &[u8], p: usize) -> u64
-    requires { ⌜ p + 4 ≤ length (now s) ⌝ }
-    ensures { λ r. ⌜ ok r (p + 4) ≡ on (cell w32) (now (s .entry)) p ⌝ }
+pub(crate) fn int32_there(rest: &[u8]) -> u64
+    requires { ⌜ 4 ≤ length (now rest) ⌝ }
+    ensures { λ r. ⌜ ok r 4 ≡ cell w32 0 (now (rest .entry)) ⌝ }
 {
-    let turned = turned32(s, p);
+    let turned = turned32(rest);
     if turned < HALF32 {
         return turned + FROM32;
     }
     turned - HALF32
 }
 
-// The count of an array that may be null.
+// The count of an array that may be null, at place p of a message. Whether its bytes are there is asked before the rest is cut out: one comparison is enough.
 pub(crate) fn count_at(s: &[u8], p: usize) -> Count
     ensures { λ r. ⌜ ofCount r ≡ on (counted (fixed w32 kept)) (now (s .entry)) p ⌝ }
 {
     if less(s.len(), 3) <= p {
         return Count::Refused(at(BYTES_END, p));
     }
-    let turned = turned32(s, p);
+    let turned = turned32(&s[p..]);
     if HALF32 <= turned {
         return Count::Took {
             count: turned - HALF32,

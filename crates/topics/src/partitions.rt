@@ -49,15 +49,16 @@ fn row_missing(s: &[u8], p: usize) -> Refusal
     at(BYTES_END, p + 6)
 }
 
-// An INT16 and two INT32: their ten bytes are asked for at once.
+// An INT16 and two INT32, each given what the one before it left: their ten bytes are asked for at once.
 fn partition_row(s: &[u8], p: usize) -> PartitionRow
     ensures { λ r. ⌜ ofPartitionRow r ≡ on (rowFrom [] partitionFront) (now (s .entry)) p ⌝ }
 {
     if p < less(s.len(), 9) {
+        let rest = &s[p..];
         return PartitionRow::Took {
-            error: int16_there(s, p),
-            index: int32_there(s, p + 2),
-            leader: int32_there(s, p + 6),
+            error: int16_there(rest),
+            index: int32_there(&rest[2..]),
+            leader: int32_there(&rest[6..]),
             next: p + 10,
         };
     }

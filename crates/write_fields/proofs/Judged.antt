@@ -1,20 +1,19 @@
 -- A call that writes a length, a count or what stands behind a length: what it answers where there is a fault, and where there is none.
 use mathlib.Core.Bool.{Bool, cond, false, true}
 use mathlib.Core.List.{List}
-use mathlib.Core.Path.{_∙_, _≡_, sym}
+use mathlib.Core.Path.{_∙_, _≡_, refl, sym}
 use Prim.Native.Nat.{_+_, _<_, _≤_, ℕ}
 use native.Mathlib.Omega.{arith}
-use lib.Dec.{ltb}
+use lib.Dec.{leb, ltb}
 use lib.ListN.{length, length-append}
 use Rattle.layout.specs.Answers.{Answer, refused, writeAlone}
-use Rattle.layout.specs.Primitives.{Size, compact, fixed, lengthBytes, limit, nullBytes, plain, sizedBytes, w16, w32, w64, w8}
+use Rattle.layout.specs.Primitives.{Size, compact, fixed, lengthBytes, limit, never, nullBytes, plain, sizedBytes, w16, w32, w64, w8}
 use Rattle.layout.specs.Reading.{Refusal, because}
-use Rattle.layout.specs.Write.{or, sizedFault, unless}
+use Rattle.layout.specs.Write.{or, sizedFault, tooLong, unless}
 use Rattle.layout.proofs.Back.{length-bytes}
-use Rattle.layout.proofs.Tests.{le-false, lt-false, lt-true}
+use Rattle.layout.proofs.Tests.{le-false, le-true, lt-false, lt-true, of-ge, of-lt}
 use Rattle.put.specs.Put.{behindLength}
 use Rattle.writers.specs.Answers.{countBytes, countFault, lengthFault, nullOr}
-use Rattle.writers.proofs.Answered.{no-fault, too-wide}
 use Rattle.put.proofs.Shortest.{unsigned-length}
 
 -- 2
@@ -44,28 +43,37 @@ module _ (z : Size) (b : Bool) (n : ℕ) (d : List ℕ) where
 
   module _ (h : b ≡ false) {l : ℕ} (i : l ≡ limit z) where
     pub count-good : (o : Answer × List ℕ) → n < l → o ≡ writeAlone 0 (lengthBytes z n) d → o ≡ writeAlone (countFault z b n) (countBytes z b n) d
-    unfolding countFault countBytes
-    count-good o k e = rw h (no-fault (ltb n (limit z)) (lengthBytes z n) d o (lt-true n (limit z) (omega arith)) e)
+    unfolding countFault countBytes unless
+    count-good o k e = e ∙ sym (rw (h, lt-true n (limit z) (omega arith)))
 
-    pub count-wide : (e : Refusal) → l ≤ n → e ≡ because 11 0 → _≡_ {A = Answer × List ℕ} (refused e, d) (writeAlone (countFault z b n) (countBytes z b n) d)
-    unfolding countFault countBytes
-    count-wide e k j = rw h (too-wide (ltb n (limit z)) (lengthBytes z n) d e j (lt-false n (limit z) (omega arith)))
+    pub count-wide : (e : Refusal) → l ≤ n → e ≡ because 2 0 → _≡_ {A = Answer × List ℕ} (refused e, d) (writeAlone (countFault z b n) (countBytes z b n) d)
+    unfolding countFault countBytes unless writeAlone
+    count-wide e k j = rw h ((λ t. (refused (j t), d)) ∙ sym (rw (lt-false n (limit z) (omega arith))))
 
--- ---- a text or data: too long to be carried, not good, or neither
+-- two bytes of length carry less than 2^15
+pub over-two : (n : ℕ) → cond (leb 32768 n) 11 0 ≡ tooLong (fixed w16 never) n
+unfolding tooLong unless
+over-two n = go (ltb n 32768) refl
+  where
+    go : (b : Bool) → ltb n 32768 ≡ b → _≡_ {A = ℕ} (cond (leb 32768 n) 11 0) (cond b 0 11)
+    go true h = rw (le-false 32768 n (of-lt n 32768 h))
+    go false h = rw (le-true 32768 n (of-ge n 32768 h))
 
-module _ (z : Size) (x bs d : List ℕ) {l : ℕ} (i : l ≡ limit z) where
-  pub field-wide : (f : ℕ) (e : Refusal) → l ≤ length x → e ≡ because 11 0 → _≡_ {A = Answer × List ℕ} (refused e, d) (writeAlone (lengthFault z x f) bs d)
-  unfolding lengthFault unless or writeAlone
-  field-wide f e h j = (λ t. (refused (j t), d)) ∙ sym (rw (lt-false (length x) (limit z) (omega arith)))
+-- ---- a text or data: too long for its length, not good, or neither
 
-  module _ (h : length x < l) (b : Bool) where
+module _ (z : Size) (x bs d : List ℕ) (l : Bool) (i : cond l 11 0 ≡ tooLong z (length x)) where
+  pub field-wide : (f : ℕ) (e : Refusal) → l ≡ true → e ≡ because 11 0 → _≡_ {A = Answer × List ℕ} (refused e, d) (writeAlone (lengthFault z x f) bs d)
+  unfolding lengthFault or writeAlone
+  field-wide f e h j = (λ t. (refused (j t), d)) ∙ sym (rw (sym i, h))
+
+  module _ (h : l ≡ false) (b : Bool) where
     pub field-good : (o : Answer × List ℕ) → b ≡ true → o ≡ writeAlone 0 bs d → o ≡ writeAlone (lengthFault z x (unless b 7)) bs d
     unfolding lengthFault unless or
-    field-good o k e = e ∙ sym (rw (k, lt-true (length x) (limit z) (omega arith)))
+    field-good o k e = e ∙ sym (rw (k, sym i, h))
 
     pub field-bad : (e : Refusal) → b ≡ false → e ≡ because 7 0 → _≡_ {A = Answer × List ℕ} (refused e, d) (writeAlone (lengthFault z x (unless b 7)) bs d)
     unfolding lengthFault unless or writeAlone
-    field-bad e k j = (λ t. (refused (j t), d)) ∙ sym (rw (k, lt-true (length x) (limit z) (omega arith)))
+    field-bad e k j = (λ t. (refused (j t), d)) ∙ sym (rw (k, sym i, h))
 
 -- ---- as layouts have it: g is what may be wrong inside
 

@@ -4,7 +4,7 @@ ghost use mathlib.Core.Bool.{cond};
 ghost use Rattle.layout.specs.Primitives.{limit, nullBytes};
 ghost use Rattle.layout.specs.Primitives.{compact, empty, fixed, kept, never, w16, w32};
 ghost use Rattle.layout.specs.Rows.{blob, text};
-ghost use Rattle.layout.specs.Write.{basicFault, unless, writeBasic};
+ghost use Rattle.layout.specs.Write.{basicFault, tooLong, unless, writeBasic};
 ghost use Rattle.layout.specs.Answers.{writeAlone};
 ghost use Rattle.put.specs.Put.{behindLength, sizeOf};
 ghost use Rattle.writers.specs.Answers.{countBytes, countFault, lengthFault, nullOr, replied};
@@ -17,7 +17,7 @@ use put::Form;
 use writers::Written;
 use writers::write::answer;
 
-// Lengths from here on cannot be carried.
+// Counts from here on cannot be carried.
 fn limit(form: Form) -> u64
     ensures { λ r. ⌜ r ≡ limit (sizeOf form) ⌝ }
 {
@@ -28,6 +28,17 @@ fn limit(form: Form) -> u64
     }
 }
 
+// Is a value of n bytes over what two bytes of length carry? What another form cannot carry is over MOST.
+fn too_long(form: Form, n: usize) -> bool
+    ensures { λ r. ⌜ cond r 11 0 ≡ tooLong (sizeOf form) n ⌝ }
+{
+    match form {
+        Form::Int16 => 32768 <= n,
+        Form::Int32 => false,
+        Form::Compact => false,
+    }
+}
+
 // Null in the place of a length.
 fn null_length(out: &mut [u8], form: Form) -> Written
     ensures { λ r. ⌜ replied r (now (out .exit)) ≡ writeAlone 0 (nullBytes (sizeOf form)) (now (out .entry)) ⌝ }
@@ -35,7 +46,7 @@ fn null_length(out: &mut [u8], form: Form) -> Written
     answer(out.len(), put::null(out, form))
 }
 
-// A count, or null.
+// A count, or null. An array of as many items as no count can carry is over MOST.
 fn count(out: &mut [u8], form: Form, null: bool, n: u64) -> Written
     ensures { λ r. ⌜ replied r (now (out .exit)) ≡ writeAlone (countFault (sizeOf form) null n) (countBytes (sizeOf form) null n) (now (out .entry)) ⌝ }
 {
@@ -45,10 +56,10 @@ fn count(out: &mut [u8], form: Form, null: bool, n: u64) -> Written
     if n < limit(form) {
         return answer(out.len(), put::length(out, form, n));
     }
-    Written::Refused(at(TOO_WIDE, 0))
+    Written::Refused(at(TOO_LONG, 0))
 }
 
-// A text or data that the form can carry, behind its length. Its size is known before anything is stored.
+// A text or data that is good, behind its length. Its size is known before anything is stored.
 fn carried(out: &mut [u8], form: Form, value: &[u8]) -> Written
     ensures { λ r. ⌜ replied r (now (out .exit)) ≡ writeAlone 0 (behindLength (sizeOf form) (now (value .entry))) (now (out .entry)) ⌝ }
 {
@@ -63,7 +74,7 @@ fn carried(out: &mut [u8], form: Form, value: &[u8]) -> Written
 fn sized(out: &mut [u8], form: Form, value: &[u8], good: bool) -> Written
     ensures { λ r. ⌜ replied r (now (out .exit)) ≡ writeAlone (lengthFault (sizeOf form) (now (value .entry)) (unless good 7)) (behindLength (sizeOf form) (now (value .entry))) (now (out .entry)) ⌝ }
 {
-    if limit(form) <= value.len() as u64 {
+    if too_long(form, value.len()) {
         return Written::Refused(at(TOO_WIDE, 0));
     }
     if good {

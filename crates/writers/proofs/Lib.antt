@@ -10,3 +10,5 @@ pub mod Answer
 pub mod Measured
 -- a promise determines the reply and the output
 pub mod Unique
+-- from what a body's writer promises to the call's answer
+pub mod Called

@@ -8,7 +8,7 @@ use mathlib.Core.Option.{Option, none, some}
 use mathlib.Core.Path.{_≡_}
 use Rattle.layout.specs.Answers.{Answer, accepted, refused}
 use Rattle.layout.specs.Primitives.{Size, compact, fixed, lengthBytes, limit, never, nullBytes, w16, w32}
-use Rattle.layout.specs.Write.{or, unless}
+use Rattle.layout.specs.Write.{or, tooLong, unless}
 use Rattle.primitives.specs.Answers.{noRoom, ofRefusal}
 use Rattle.writers.specs.declared.Written.{Written}
 
@@ -21,13 +21,13 @@ ofWritten (Written.Refused e) = refused (ofRefusal e)
 unfoldable pub countBytes : Size → Bool → ℕ → List ℕ
 countBytes z null n = cond null (nullBytes z) (lengthBytes z n)
 
--- 11: a count that cannot be carried
+-- 2: a count that cannot be carried, for an array of so many items is over the size of a body
 unfoldable pub countFault : Size → Bool → ℕ → ℕ
-countFault z null n = unless (cond null true (ltb n (limit z))) 11
+countFault z null n = unless (cond null true (ltb n (limit z))) 2
 
--- 11: too long to be carried; else e, what is wrong inside
+-- 11: too long; else e, what is wrong inside
 unfoldable pub lengthFault : Size → List ℕ → ℕ → ℕ
-lengthFault z x e = or (unless (ltb (length x) (limit z)) 11) e
+lengthFault z x e = or (tooLong z (length x)) e
 
 -- null, or the value lent beside it
 abbrev pub nullOr : Bool → List ℕ → Option (List ℕ)

@@ -113,11 +113,13 @@ impl<'g, 'a> Tables<'g, 'a> {
     }
 }
 
-/// Fields behind one another, and the number of the first that cannot be written.
+/// Fields one after another, the number of the first that cannot be written, and whether there is a length or count that four
+/// bytes or a varint cannot carry: what it stands for is over the limit, which is judged after all faults.
 #[derive(Default)]
 pub struct Fields {
     bytes: Vec<u8>,
     fault: Option<u8>,
+    over: bool,
 }
 
 impl Fields {
@@ -151,9 +153,12 @@ impl Fields {
     pub fn length(&mut self, form: Form, n: usize) {
         match form {
             Form::Int16 => self.int(2, i64::try_from(n).unwrap_or(i64::MAX)),
-            Form::Int32 => self.int(4, i64::try_from(n).unwrap_or(i64::MAX)),
+            Form::Int32 => {
+                self.over |= i32::try_from(n).is_err();
+                self.bytes.extend((n as u32).to_be_bytes());
+            }
             Form::Compact => {
-                self.must(n < usize::MAX, 11);
+                self.over |= n == usize::MAX;
                 self.unsigned_varint(n as u128 + 1);
             }
         }
@@ -193,6 +198,7 @@ impl Fields {
     pub fn judged(self) -> Result<Vec<u8>, Refusal> {
         match self.fault {
             Some(number) => Err(Refusal::at(number, 0)),
+            None if self.over => Err(Refusal::at(2, 0)),
             None => Ok(self.bytes),
         }
     }

@@ -1,22 +1,31 @@
 -- A byte below 128 is the number; else the step on the rest is a read at the place where the rest starts.
 use mathlib.Core.Path.{refl}
-use Rattle.places.proofs.Fronts.{byte-at}
+use Rattle.places.proofs.Fronts.{byte-cut}
 use Rattle.places.proofs.OnRest.{at-place, fits, portable-unsigned}
 use borrow.Author.Needs.{needs}
 use Rattle.places.proofs.varint_at.Statement.{statement}
 use Rattle.places.proofs.varint_at.Tie as tie
 
+sub-left : tie.Need-sub-left
+sub-left c = search needs
+
+part-left-start : tie.Need-part-left-start
+part-left-start c = search needs
+
+part-left-end : tie.Need-part-left-end
+part-left-end c = search needs
+
 shared-slice-read-b : tie.Need-shared-slice-read-b
 shared-slice-read-b c = search needs
 
-cast-t9 : tie.Need-cast-t9
-cast-t9 c = search needs
+cast-t13 : tie.Need-cast-t13
+cast-t13 c = search needs
 
-add-t10 : tie.Need-add-t10
-add-t10 c = search needs
+add-t14 : tie.Need-add-t14
+add-t14 c = search needs
 
 returns : tie.Need-returns
-returns c = byte-at _ _ _ refl (c .before .before .if1 .taken) (c .if2 .taken)
+returns c = byte-cut _ _ _ refl (c .before .before .before .if1 .taken) (c .if2 .taken)
 
 rest-requires : tie.Need-rest-requires
 rest-requires c κs = search needs
@@ -34,9 +43,12 @@ pub varint-at-spec : {M : Type 1} → statement M
 varint-at-spec =
     tie.close
     (tie.spec
+    sub-left
+    part-left-start
+    part-left-end
     shared-slice-read-b
-    cast-t9
-    add-t10
+    cast-t13
+    add-t14
     returns
     rest-requires
     unsigned-varint-requires

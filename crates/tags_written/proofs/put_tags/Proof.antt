@@ -2,12 +2,13 @@
 use borrow.Author.Needs.{needs}
 use Prim.Native.Nat.{_-_}
 use Rattle.rows.proofs.Turns.{Walked, walked-end, walked-more, walked-start}
-use Rattle.tags_written.specs.Tags.{rowBytes, rowsBytes}
+use Rattle.rows.specs.Writes.{rowBytes, rowsBytes}
+use Rattle.tags_written.specs.Tags.{tagShape}
 use Rattle.tags_written.proofs.put_tags.Statement.{statement}
 use Rattle.tags_written.proofs.put_tags.Tie as tie
 
 abbrev Inv-loop : tie.InvT-loop
-Inv-loop out₀ lent table n done₀ i₀ out done i = Walked (rowBytes lent) 3 table out₀ i done out
+Inv-loop out₀ lent table n done₀ i₀ out done i = Walked (rowBytes lent tagShape) 3 table out₀ i done out
 
 abbrev μ-loop : tie.MeasureT-loop
 μ-loop out₀ lent table n done₀ i₀ out done i = n - i
@@ -15,35 +16,8 @@ abbrev μ-loop : tie.MeasureT-loop
 loop-holds : tie.Need-loop-holds Inv-loop μ-loop
 loop-holds c = walked-start _ _ _ _
 
-behind-requires : tie.Need-behind-requires Inv-loop μ-loop
-behind-requires c κs = search needs
-
-sub-put-row : tie.Need-sub-put-row Inv-loop μ-loop
-sub-put-row c = search needs
-
-part-put-row-start : tie.Need-part-put-row-start Inv-loop μ-loop
-part-put-row-start c = search needs
-
-part-put-row-end : tie.Need-part-put-row-end Inv-loop μ-loop
-part-put-row-end c = search needs
-
-put-row-requires : tie.Need-put-row-requires Inv-loop μ-loop
-put-row-requires c κs = search needs
-
-add-requires : tie.Need-add-requires Inv-loop μ-loop
-add-requires c κs = search needs
-
-add-i : tie.Need-add-i Inv-loop μ-loop
-add-i c = search needs
-
-loop-less : tie.Need-loop-less Inv-loop μ-loop
-loop-less c = search needs
-
 loop-again : tie.Need-loop-again Inv-loop μ-loop
 loop-again c = search (needs, walked-more)
-
-same-length : tie.Need-same-length Inv-loop μ-loop
-same-length c = search needs
 
 returns : tie.Need-returns Inv-loop μ-loop
 unfolding rowsBytes
@@ -53,17 +27,5 @@ pub put-tags-spec : {M : Type 1} → statement M
 put-tags-spec =
     tie.close
     (tie.spec
-    Inv-loop
-    μ-loop
-    loop-holds
-    behind-requires
-    sub-put-row
-    part-put-row-start
-    part-put-row-end
-    put-row-requires
-    add-requires
-    add-i
-    loop-less
-    loop-again
-    same-length
-    returns)
+    Inv-loop μ-loop loop-holds (λ c κs. search needs) (λ c. search needs) (λ c. search needs) (λ c. search needs) (λ c κs. search needs)
+    (λ c κs. search needs) (λ c. search needs) (λ c. search needs) loop-again (λ c. search needs) returns)

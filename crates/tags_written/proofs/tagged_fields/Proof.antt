@@ -3,52 +3,19 @@ use mathlib.Core.Path.{_∙_, sym}
 use native.Mathlib.Omega.{arith}
 use borrow.Author.Tests.{not-false, not-true}
 use Rattle.writers.proofs.Measured.{measured-long, measured-short, measured-written}
-use Rattle.tags_written.proofs.Told.{told-bad, told-good}
+use Rattle.tags_written.proofs.Tags.{told-bad, told-good}
 use borrow.Author.Needs.{needs}
 use Rattle.tags_written.proofs.tagged_fields.Statement.{statement}
 use Rattle.tags_written.proofs.tagged_fields.Tie as tie
 
-is-good-requires : tie.Need-is-good-requires
-is-good-requires c κs = search needs
-
-at-requires : tie.Need-at-requires
-at-requires c κs = search needs
-
 returns : tie.Need-returns
 returns c = told-bad (c .before .before .before .before .before .before .args .lent .now) (c .before .before .before .before .before .before .args .table .now) _ _ (λ i. omega (arith, c .before .before .before .shared-slice-known2 .given i)) (omega arith) (omega arith) _ (c .at .ensures) (sym (c .before .before .is-good .ensures) ∙ not-true _ (c .before .if1 .taken))
-
-slice-relend-prefix-tag-buffer : tie.Need-slice-relend-prefix-tag-buffer
-slice-relend-prefix-tag-buffer c = search needs
-
-slice-aggregate-tag-buffer : tie.Need-slice-aggregate-tag-buffer
-slice-aggregate-tag-buffer c = search needs
-
-tag-buffer-requires : tie.Need-tag-buffer-requires
-tag-buffer-requires c κs = search needs
-
-at-requires-2 : tie.Need-at-requires-2
-at-requires-2 c κs = search needs
-
-same-length : tie.Need-same-length
-same-length c = search needs
 
 returns-2 : tie.Need-returns-2
 returns-2 c = told-good (c .before .before .before .before .before .before .before .before .before .before .before .args .lent .now) (c .before .before .before .before .before .before .before .before .before .before .before .args .table .now) _ _ (λ i. omega (arith, c .before .before .before .before .before .before .before .before .shared-slice-known2 .given i)) (omega arith) (omega arith) (sym (c .before .before .before .before .before .before .before .is-good .ensures) ∙ not-false _ (c .before .before .before .before .before .before .if1 .left)) _ (measured-long (c .before .before .before .before .tag-buffer .ensures) _ _ (c .at2 .ensures) (c .before .if2 .taken))
 
-no-room-requires : tie.Need-no-room-requires
-no-room-requires c κs = search needs
-
-same-length-2 : tie.Need-same-length-2
-same-length-2 c = search needs
-
 returns-3 : tie.Need-returns-3
 returns-3 c = told-good (c .before .before .before .before .before .before .before .before .before .before .before .before .args .lent .now) (c .before .before .before .before .before .before .before .before .before .before .before .before .args .table .now) _ _ (λ i. omega (arith, c .before .before .before .before .before .before .before .before .before .shared-slice-known2 .given i)) (omega arith) (omega arith) (sym (c .before .before .before .before .before .before .before .before .is-good .ensures) ∙ not-false _ (c .before .before .before .before .before .before .before .if1 .left)) _ (measured-short (c .before .before .before .before .before .tag-buffer .ensures) _ (c .before .before .if2 .left) _ (c .no-room .ensures) (c .before .if3 .taken))
-
-tag-buffer-requires-2 : tie.Need-tag-buffer-requires-2
-tag-buffer-requires-2 c κs = search needs
-
-same-length-3 : tie.Need-same-length-3
-same-length-3 c = search needs
 
 returns-4 : tie.Need-returns-4
 returns-4 c = told-good (c .before .before .before .before .before .before .before .before .before .before .before .before .before .before .before .args .lent .now) (c .before .before .before .before .before .before .before .before .before .before .before .before .before .before .before .args .table .now) _ _ (λ i. omega (arith, c .before .before .before .before .before .before .before .before .before .before .before .before .shared-slice-known2 .given i)) (omega arith) (omega arith) (sym (c .before .before .before .before .before .before .before .before .before .before .before .is-good .ensures) ∙ not-false _ (c .before .before .before .before .before .before .before .before .before .before .if1 .left)) _ (measured-written (c .before .before .before .before .before .before .before .before .tag-buffer .ensures) _ (c .before .before .before .before .before .if2 .left) (c .before .before .before .before .if3 .left) (c .before .before .tag-buffer2 .ensures))
@@ -57,18 +24,5 @@ pub tagged-fields-spec : {M : Type 1} → statement M
 tagged-fields-spec =
     tie.close
     (tie.spec
-    is-good-requires
-    at-requires
-    returns
-    slice-relend-prefix-tag-buffer
-    slice-aggregate-tag-buffer
-    tag-buffer-requires
-    at-requires-2
-    same-length
-    returns-2
-    no-room-requires
-    same-length-2
-    returns-3
-    tag-buffer-requires-2
-    same-length-3
-    returns-4)
+    (λ c κs. search needs) (λ c κs. search needs) returns (λ c. search needs) (λ c. search needs) (λ c κs. search needs) (λ c κs. search needs)
+    (λ c. search needs) returns-2 (λ c κs. search needs) (λ c. search needs) returns-3 (λ c κs. search needs) (λ c. search needs) returns-4)

@@ -2,7 +2,7 @@ use mathlib.Core.Bool.{Bool}
 use mathlib.Core.Path.{ap}
 use Rattle.layout.specs.Primitives.{compact, kept, lengthBytes, nullBytes}
 use Rattle.layout.specs.Utf8.{utf8}
-use Rattle.layout.specs.Write.{basicFault, unless, writeBasic}
+use Rattle.layout.specs.Write.{basicFault, tooLong, unless, writeBasic}
 use Rattle.put.specs.Put.{behindLength}
 use Rattle.writers.specs.Answers.{lengthFault}
 use Rattle.write_fields.proofs.Judged.{nullable-written}
@@ -20,7 +20,7 @@ same-length : tie.Need-same-length
 same-length c = search needs
 
 returns : tie.Need-returns
-unfolding basicFault writeBasic lengthFault behindLength lengthBytes nullBytes
+unfolding basicFault writeBasic lengthFault behindLength lengthBytes nullBytes tooLong
 returns c =
     let a = c .before .before .before .before .before .before .before .args in
     nullable-written (compact kept) (a .value .now) (a .out .now) (λ y. unless (utf8 y) 7) (ap (λ (b : Bool). unless b 7) (c .before .before .before .is-text .ensures)) _ (a .null) (c .before .before .nullable .ensures)

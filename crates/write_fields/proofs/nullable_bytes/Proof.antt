@@ -1,6 +1,6 @@
 use mathlib.Core.Path.{refl}
 use Rattle.layout.specs.Primitives.{fixed, kept, lengthBytes, nullBytes, w32}
-use Rattle.layout.specs.Write.{basicFault, unless, writeBasic}
+use Rattle.layout.specs.Write.{basicFault, tooLong, unless, writeBasic}
 use Rattle.put.specs.Put.{behindLength}
 use Rattle.writers.specs.Answers.{lengthFault}
 use Rattle.write_fields.proofs.Judged.{nullable-written}
@@ -15,7 +15,7 @@ same-length : tie.Need-same-length
 same-length c = search needs
 
 returns : tie.Need-returns
-unfolding basicFault writeBasic unless lengthFault behindLength lengthBytes nullBytes
+unfolding basicFault writeBasic unless lengthFault behindLength lengthBytes nullBytes tooLong
 returns c =
     let a = c .before .before .before .before .before .before .args in
     nullable-written (fixed w32 kept) (a .value .now) (a .out .now) (λ y. 0) refl _ (a .null) (c .before .before .nullable .ensures)

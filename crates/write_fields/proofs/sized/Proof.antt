@@ -3,14 +3,14 @@ use borrow.Author.Needs.{needs}
 use Rattle.write_fields.proofs.sized.Statement.{statement}
 use Rattle.write_fields.proofs.sized.Tie as tie
 
-limit-requires : tie.Need-limit-requires
-limit-requires c κs = search needs
+too-long-requires : tie.Need-too-long-requires
+too-long-requires c κs = search needs
 
 at-requires : tie.Need-at-requires
 at-requires c κs = search needs
 
 returns : tie.Need-returns
-returns c = field-wide _ _ _ _ (c .before .before .limit .ensures) _ _ (c .before .if1 .taken) (c .at .ensures)
+returns c = field-wide _ _ _ _ _ (c .before .before .too-long .ensures) _ _ (c .before .if1 .taken) (c .at .ensures)
 
 carried-requires : tie.Need-carried-requires
 carried-requires c κs = search needs
@@ -19,19 +19,19 @@ same-length : tie.Need-same-length
 same-length c = search needs
 
 returns-2 : tie.Need-returns-2
-returns-2 c = field-good _ _ _ _ (c .before .before .before .before .before .before .limit .ensures) (c .before .before .before .before .before .if1 .left) _ _ (c .before .before .before .before .if2 .taken) (c .before .before .carried .ensures)
+returns-2 c = field-good _ _ _ _ _ (c .before .before .before .before .before .before .too-long .ensures) (c .before .before .before .before .before .if1 .left) _ _ (c .before .before .before .before .if2 .taken) (c .before .before .carried .ensures)
 
 at-requires-2 : tie.Need-at-requires-2
 at-requires-2 c κs = search needs
 
 returns-3 : tie.Need-returns-3
-returns-3 c = field-bad _ _ _ _ (c .before .before .before .limit .ensures) (c .before .before .if1 .left) _ _ (c .before .if2 .left) (c .at2 .ensures)
+returns-3 c = field-bad _ _ _ _ _ (c .before .before .before .too-long .ensures) (c .before .before .if1 .left) _ _ (c .before .if2 .left) (c .at2 .ensures)
 
 pub sized-spec : {M : Type 1} → statement M
 sized-spec =
     tie.close
     (tie.spec
-    limit-requires
+    too-long-requires
     at-requires
     returns
     carried-requires

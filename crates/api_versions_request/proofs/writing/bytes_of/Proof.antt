@@ -1,20 +1,8 @@
 -- An unset text is the empty part, and every other is the part that it names.
-use Rattle.api_versions_request.proofs.Texts.{bytes-absent, bytes-present}
+use Rattle.api_versions_request.proofs.Request.{bytes-absent, bytes-present}
 use borrow.Author.Needs.{needs}
 use Rattle.api_versions_request.proofs.writing.bytes_of.Statement.{statement}
 use Rattle.api_versions_request.proofs.writing.bytes_of.Tie as tie
-
-enum-told : tie.Need-enum-told
-enum-told c = search needs
-
-part-requires : tie.Need-part-requires
-part-requires c κs = search needs
-
-enum-known-t : tie.Need-enum-known-t
-enum-known-t c = search needs
-
-part-requires-2 : tie.Need-part-requires-2
-part-requires-2 c κs = search needs
 
 returns : tie.Need-returns
 returns c = bytes-absent _ (c .before .enum-told .given .1) _ _ (c .part .ensures)
@@ -24,4 +12,5 @@ returns-2 c = bytes-present _ (c .before .before .t .given .1) _ _ (c .part2 .en
 
 pub bytes-of-spec : {M : Type 1} → statement M
 bytes-of-spec =
-    tie.close (tie.spec enum-told part-requires enum-known-t part-requires-2 returns returns-2)
+    tie.close (tie.spec
+    (λ c. search needs) (λ c κs. search needs) (λ c. search needs) (λ c κs. search needs) returns returns-2)

@@ -1,33 +1,21 @@
 -- A version that is not known is refused, and at every other the promise is that of the walk.
-use native.Mathlib.Omega.{arith}
 use mathlib.Core.Path.{_∙_, ap}
 use mir.Facts.{toZ-ofZ}
 use Rattle.primitives.specs.Answers.{versionOf}
-use Rattle.api_versions_request.proofs.Meant.{request-written}
+use Rattle.api_versions_request.proofs.Request.{request-written}
 use Rattle.primitives.proofs.Versions.{unwritten}
 use borrow.Author.Needs.{needs}
 use Rattle.api_versions_request.proofs.writing.write.Statement.{statement}
 use Rattle.api_versions_request.proofs.writing.write.Tie as tie
 
-version-of-requires : tie.Need-version-of-requires
-version-of-requires c κs = search needs
-
-at-requires : tie.Need-at-requires
-at-requires c κs = search needs
-
 returns : tie.Need-returns
 returns c = unwritten _ _ _ (c .before .before .version-of .ensures ∙ ap versionOf (toZ-ofZ (c .before .before .before .before .before .before .fits .version))) (c .before .if1 .taken) _ _ _ _ (c .at .ensures)
 
-written-requires : tie.Need-written-requires
-written-requires c κs = search needs
-
-same-length : tie.Need-same-length
-same-length c = search needs
-
 returns-2 : tie.Need-returns-2
-returns-2 c = request-written (c .before .before .before .before .before .before .before .before .before .args .lent .now) (omega arith) (c .before .before .before .before .before .before .before .before .before .args .body .name) (c .before .before .before .before .before .before .before .before .before .args .body .version) (c .before .before .before .before .before .before .before .before .before .args .body .tags) (c .before .before .before .before .before .before .before .before .before .args .tags .now) _ (λ i. omega (arith, c .before .before .before .before .before .before .shared-slice-known2 .given i)) (omega arith) _ (c .before .before .before .before .if1 .left) _ (c .before .before .before .before .before .version-of .ensures ∙ ap versionOf (toZ-ofZ (c .before .before .before .before .before .before .before .before .before .fits .version))) _ (c .before .before .written .ensures)
+returns-2 c = request-written (c .before .before .before .before .before .before .before .before .before .args .lent .now) (c .before .before .before .before .before .before .before .before .before .args .body .name) (c .before .before .before .before .before .before .before .before .before .args .body .version) (c .before .before .before .before .before .before .before .before .before .args .body .tags) (c .before .before .before .before .before .before .before .before .before .args .tags .now) _ _ (c .before .before .before .before .if1 .left) _ (c .before .before .before .before .before .version-of .ensures ∙ ap versionOf (toZ-ofZ (c .before .before .before .before .before .before .before .before .before .fits .version))) _ (c .before .before .written .ensures)
 
 pub write-spec : {M : Type 1} → statement M
 write-spec =
     tie.close
-    (tie.spec version-of-requires at-requires returns written-requires same-length returns-2)
+    (tie.spec
+    (λ c κs. search needs) (λ c κs. search needs) returns (λ c κs. search needs) (λ c. search needs) returns-2)

@@ -5,21 +5,16 @@ use borrow.Author.Needs.{needs}
 use Rattle.api_versions_written.proofs.judge.refusal.Statement.{statement}
 use Rattle.api_versions_written.proofs.judge.refusal.Tie as tie
 
-is-good-requires : tie.Need-is-good-requires
-is-good-requires c κs = search needs
-
 returns : tie.Need-returns
-returns c = fault-bad _ _ _ _ _ _ _ _ _ _ (c .before .is-good .ensures) (not-true _ (c .if1 .taken))
-
-is-carried-requires : tie.Need-is-carried-requires
-is-carried-requires c κs = search needs
+returns c = fault-bad _ _ _ (c .before .is-good .ensures) (not-true _ (c .if1 .taken))
 
 returns-2 : tie.Need-returns-2
-returns-2 c = fault-wide _ _ _ _ _ _ _ _ _ _ (c .before .before .before .is-good .ensures) (not-false _ (c .before .before .if1 .left)) _ (c .before .is-carried .ensures) (not-true _ (c .if2 .taken))
+returns-2 c = fault-wide _ _ _ (c .before .before .before .is-good .ensures) (not-false _ (c .before .before .if1 .left)) _ (c .before .is-carried .ensures) (not-true _ (c .if2 .taken))
 
 returns-3 : tie.Need-returns-3
-returns-3 c = fault-none _ _ _ _ _ _ _ _ _ _ (c .before .before .before .is-good .ensures) (not-false _ (c .before .before .if1 .left)) _ (c .before .is-carried .ensures) (not-false _ (c .if2 .left))
+returns-3 c = fault-none _ _ _ (c .before .before .before .is-good .ensures) (not-false _ (c .before .before .if1 .left)) _ (c .before .is-carried .ensures) (not-false _ (c .if2 .left))
 
 pub refusal-spec : {M : Type 1} → statement M
 refusal-spec =
-    tie.close (tie.spec is-good-requires returns is-carried-requires returns-2 returns-3)
+    tie.close (tie.spec
+    (λ c κs. search needs) returns (λ c κs. search needs) returns-2 returns-3)

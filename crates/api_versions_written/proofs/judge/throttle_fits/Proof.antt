@@ -4,14 +4,12 @@ use borrow.Author.Needs.{needs}
 use Rattle.api_versions_written.proofs.judge.throttle_fits.Statement.{statement}
 use Rattle.api_versions_written.proofs.judge.throttle_fits.Tie as tie
 
-fits-requires : tie.Need-fits-requires
-fits-requires c κs = search needs
-
 returns : tie.Need-returns
-returns c = throttle-there _ (c .before .before .args .throttle) _ (c .before .if1 .taken) _ (c .fits2 .ensures)
+returns c = throttle-there _ _ (c .before .if1 .taken) _ (c .fits2 .ensures)
 
 returns-2 : tie.Need-returns-2
-returns-2 c = throttle-lacking _ (c .before .args .throttle) _ (c .if1 .left)
+returns-2 c = throttle-lacking _ _ (c .if1 .left)
 
 pub throttle-fits-spec : {M : Type 1} → statement M
-throttle-fits-spec = tie.close (tie.spec fits-requires returns returns-2)
+throttle-fits-spec = tie.close (tie.spec
+    (λ c κs. search needs) returns returns-2)

@@ -2,8 +2,7 @@
 use borrow.Author.Needs.{needs}
 use native.Mathlib.Omega.{arith}
 use lib.ListN.{getD, length}
-use Rattle.api_versions_written.proofs.Items.{Going, going-end, going-enough, going-more, going-start}
-use Rattle.api_versions_written.proofs.Walk.{cells-most}
+use Rattle.api_versions_written.proofs.Items.{Going, cells-most, going-end, going-enough, going-more, going-start}
 use Rattle.api_versions_written.proofs.response.all_items.Statement.{statement}
 use Rattle.api_versions_written.proofs.response.all_items.Tie as tie
 
@@ -16,26 +15,8 @@ abbrev μ-loop : tie.MeasureT-loop
 loop-holds : tie.Need-loop-holds Inv-loop μ-loop
 loop-holds c = going-start _ (c .before .before .before .before .args .flexible) _ _ _ (c .before .before .before .before .pre)
 
-behind-requires : tie.Need-behind-requires Inv-loop μ-loop
-behind-requires c κs = search needs
-
-sub-item : tie.Need-sub-item Inv-loop μ-loop
-sub-item c = search needs
-
-part-item-start : tie.Need-part-item-start Inv-loop μ-loop
-part-item-start c = search needs
-
-part-item-end : tie.Need-part-item-end Inv-loop μ-loop
-part-item-end c = search needs
-
 item-requires : tie.Need-item-requires Inv-loop μ-loop
 item-requires c κs = (c .before .before .loop-test .taken, going-enough _ (c .before .before .before .before .before .before .before .before .args .flexible) _ _ (c .before .before .before .loop .inv) (c .before .before .loop-test .taken))
-
-add-requires : tie.Need-add-requires Inv-loop μ-loop
-add-requires c κs = search needs
-
-shared-slice-read-tag-cells : tie.Need-shared-slice-read-tag-cells Inv-loop μ-loop
-shared-slice-read-tag-cells c = search needs
 
 tag-cells-requires : tie.Need-tag-cells-requires Inv-loop μ-loop
 tag-cells-requires c κs = omega (arith, going-enough _ (c .before .before .before .before .before .before .before .before .before .before .before .before .before .args .flexible) _ _ (c .before .before .before .before .before .before .before .before .loop .inv) (c .before .before .before .before .before .before .before .loop-test .taken))
@@ -49,26 +30,8 @@ sub-free c = omega (arith, c .tag-cells .ensures, cells-most (c .before .before 
 part-free-start : tie.Need-part-free-start Inv-loop μ-loop
 part-free-start c = omega (arith, c .tag-cells .ensures, cells-most (c .before .before .before .before .before .before .before .before .before .before .before .before .before .before .args .flexible) (getD (c .before .before .before .before .before .before .before .before .before .loop .left .now) 3 0), going-enough _ (c .before .before .before .before .before .before .before .before .before .before .before .before .before .before .args .flexible) _ _ (c .before .before .before .before .before .before .before .before .before .loop .inv) (c .before .before .before .before .before .before .before .before .loop-test .taken))
 
-part-free-end : tie.Need-part-free-end Inv-loop μ-loop
-part-free-end c = search needs
-
-sub-left : tie.Need-sub-left Inv-loop μ-loop
-sub-left c = search needs
-
-part-left-start : tie.Need-part-left-start Inv-loop μ-loop
-part-left-start c = search needs
-
-part-left-end : tie.Need-part-left-end Inv-loop μ-loop
-part-left-end c = search needs
-
-loop-less : tie.Need-loop-less Inv-loop μ-loop
-loop-less c = search needs
-
 loop-again : tie.Need-loop-again Inv-loop μ-loop
 loop-again c = going-more _ (c .before .before .before .before .before .before .before .before .before .before .before .before .before .before .before .before .args .flexible) _ _ (c .before .before .before .before .before .before .before .before .before .before .before .loop .inv) (c .before .before .before .before .before .before .before .before .before .before .loop-test .taken) _ (c .before .before .before .before .before .before .before .before .before .behind .ensures) (c .before .before .before .before .before .before .before .item .ensures) _ (c .before .before .before .before .add .ensures) _ (c .before .before .tag-cells .ensures)
-
-same-length : tie.Need-same-length Inv-loop μ-loop
-same-length c = search needs
 
 returns : tie.Need-returns Inv-loop μ-loop
 returns c = going-end _ (c .before .before .before .before .before .before .args .flexible) _ _ (c .before .loop .inv) (c .loop-test .left)
@@ -77,25 +40,6 @@ pub all-items-spec : {M : Type 1} → statement M
 all-items-spec =
     tie.close
     (tie.spec
-    Inv-loop
-    μ-loop
-    loop-holds
-    behind-requires
-    sub-item
-    part-item-start
-    part-item-end
-    item-requires
-    add-requires
-    shared-slice-read-tag-cells
-    tag-cells-requires
-    mul-free
-    sub-free
-    part-free-start
-    part-free-end
-    sub-left
-    part-left-start
-    part-left-end
-    loop-less
-    loop-again
-    same-length
-    returns)
+    Inv-loop μ-loop loop-holds (λ c κs. search needs) (λ c. search needs) (λ c. search needs) (λ c. search needs) item-requires (λ c κs. search needs)
+    (λ c. search needs) tag-cells-requires mul-free sub-free part-free-start (λ c. search needs) (λ c. search needs) (λ c. search needs)
+    (λ c. search needs) (λ c. search needs) loop-again (λ c. search needs) returns)

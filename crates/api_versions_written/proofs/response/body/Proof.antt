@@ -1,32 +1,8 @@
 -- The rest goes behind the error.
-use Rattle.api_versions_written.proofs.Walk.{response-put}
+use Rattle.api_versions_written.proofs.Whole.{response-put}
 use borrow.Author.Needs.{needs}
 use Rattle.api_versions_written.proofs.response.body.Statement.{statement}
 use Rattle.api_versions_written.proofs.response.body.Tie as tie
-
-lowest-requires : tie.Need-lowest-requires
-lowest-requires c κs = search needs
-
-behind-requires : tie.Need-behind-requires
-behind-requires c κs = search needs
-
-sub-rest : tie.Need-sub-rest
-sub-rest c = search needs
-
-part-rest-start : tie.Need-part-rest-start
-part-rest-start c = search needs
-
-part-rest-end : tie.Need-part-rest-end
-part-rest-end c = search needs
-
-rest-requires : tie.Need-rest-requires
-rest-requires c κs = search needs
-
-add-requires : tie.Need-add-requires
-add-requires c κs = search needs
-
-same-length : tie.Need-same-length
-same-length c = search needs
 
 returns : tie.Need-returns
 returns c = search (needs, response-put)
@@ -35,12 +11,5 @@ pub body-spec : {M : Type 1} → statement M
 body-spec =
     tie.close
     (tie.spec
-    lowest-requires
-    behind-requires
-    sub-rest
-    part-rest-start
-    part-rest-end
-    rest-requires
-    add-requires
-    same-length
-    returns)
+    (λ c κs. search needs) (λ c κs. search needs) (λ c. search needs) (λ c. search needs) (λ c. search needs) (λ c κs. search needs)
+    (λ c κs. search needs) (λ c. search needs) returns)

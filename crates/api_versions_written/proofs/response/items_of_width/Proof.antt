@@ -13,17 +13,11 @@ use Rattle.api_versions_written.proofs.response.items_of_width.Tie as t
 mul-all : tie.Need-mul-all
 mul-all c = omega (arith, told-fits (c .before .before .args .flexible) (c .before .before .pre) (length (c .before .before .args .items .now) / 4) (omega arith))
 
-slice-relend-prefix-untagged-rows : tie.Need-slice-relend-prefix-untagged-rows
-slice-relend-prefix-untagged-rows c = search needs
-
 slice-aggregate-untagged-rows : tie.Need-slice-aggregate-untagged-rows
 slice-aggregate-untagged-rows c = sym (length-take-le _ _ (c .before .if1 .taken))
 
 untagged-rows-requires : tie.Need-untagged-rows-requires
 untagged-rows-requires c κs = (c .before .before .before .before .pre, length-take-le _ _ (c .before .if1 .taken))
-
-same-length : tie.Need-same-length
-same-length c = search needs
 
 returns : tie.Need-returns
 returns c = front-all (told-items (c .before .before .before .before .before .before .before .args .flexible) (c .before .before .before .before .before .before .before .pre) _) (c .before .before .before .before .if1 .taken) (c .before .before .untagged-rows .ensures)
@@ -35,10 +29,4 @@ pub items-of-width-spec : {M : Type 1} → statement M
 items-of-width-spec =
     tie.close
     (tie.spec
-    mul-all
-    slice-relend-prefix-untagged-rows
-    slice-aggregate-untagged-rows
-    untagged-rows-requires
-    same-length
-    returns
-    returns-2)
+    mul-all (λ c. search needs) slice-aggregate-untagged-rows untagged-rows-requires (λ c. search needs) returns returns-2)

@@ -4,23 +4,12 @@ use borrow.Author.Needs.{needs}
 use Rattle.api_versions_written.proofs.response.untagged_items.Statement.{statement}
 use Rattle.api_versions_written.proofs.response.untagged_items.Tie as tie
 
-items-of-width-requires : tie.Need-items-of-width-requires
-items-of-width-requires c κs = search needs
-
-same-length : tie.Need-same-length
-same-length c = search needs
-
 returns : tie.Need-returns
 returns c = known-version _ _ (c .before .before .before .before .if1 .taken) _ (c .before .before .items-of-width .ensures)
-
-items-of-width-requires-2 : tie.Need-items-of-width-requires-2
-items-of-width-requires-2 c κs = search needs
-
-same-length-2 : tie.Need-same-length-2
-same-length-2 c = search needs
 
 returns-2 : tie.Need-returns-2
 returns-2 c = known-version _ _ (c .before .before .before .before .if1 .left) _ (c .before .before .items-of-width2 .ensures)
 
 pub untagged-items-spec : {M : Type 1} → statement M
-untagged-items-spec = tie.close (tie.spec items-of-width-requires same-length returns items-of-width-requires-2 same-length-2 returns-2)
+untagged-items-spec = tie.close (tie.spec
+    (λ c κs. search needs) (λ c. search needs) returns (λ c κs. search needs) (λ c. search needs) returns-2)

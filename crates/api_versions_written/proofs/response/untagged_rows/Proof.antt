@@ -4,7 +4,7 @@ use native.Mathlib.Omega.{arith}
 use Prim.Native.Nat.{_-_}
 use lib.ListN.{length}
 use Rattle.put.proofs.Even.{Even, even-end, even-inside, even-left, even-more, even-start}
-use Rattle.api_versions_written.specs.Responses.{untaggedBytes, untaggedItems}
+use Rattle.api_versions_written.specs.Shapes.{untaggedBytes}
 use Rattle.api_versions_written.proofs.Untagged.{told-some, told-wide}
 use Rattle.api_versions_written.proofs.response.untagged_rows.Statement.{statement}
 use Rattle.api_versions_written.proofs.response.untagged_rows.Tie as tie
@@ -27,17 +27,11 @@ sub-untagged-item c = even-inside (c .before .before .before .before .pre .1) (c
 part-untagged-item-start : tie.Need-part-untagged-item-start Inv-loop μ-loop
 part-untagged-item-start c = even-inside (c .before .before .before .before .pre .1) (c .before .loop .inv)
 
-part-untagged-item-end : tie.Need-part-untagged-item-end Inv-loop μ-loop
-part-untagged-item-end c = search needs
-
 untagged-item-requires : tie.Need-untagged-item-requires Inv-loop μ-loop
 untagged-item-requires c κs = even-left (c .before .before .before .before .before .pre .1) (c .before .before .loop .inv) (told-some (c .before .before .before .before .before .args .flexible) (c .before .before .before .before .before .pre .0)) (c .before .loop-test .taken)
 
 add-p : tie.Need-add-p Inv-loop μ-loop
 add-p c = omega (arith, even-inside (c .before .before .before .before .before .before .before .before .pre .1) (c .before .before .before .before .before .loop .inv), c .before .before .before .before .loop-test .taken)
-
-add-i : tie.Need-add-i Inv-loop μ-loop
-add-i c = search needs
 
 loop-less : tie.Need-loop-less Inv-loop μ-loop
 loop-less c = omega (arith, even-inside (c .before .before .before .before .before .before .before .before .pre .1) (c .before .before .before .before .before .loop .inv), c .before .before .before .before .loop-test .taken, c .before .before .before .before .before .loop .inv .walked .step .long, told-some (c .before .before .before .before .before .before .before .before .args .flexible) (c .before .before .before .before .before .before .before .before .pre .0))
@@ -45,28 +39,12 @@ loop-less c = omega (arith, even-inside (c .before .before .before .before .befo
 loop-again : tie.Need-loop-again Inv-loop μ-loop
 loop-again c = even-more (c .before .before .before .before .before .before .before .before .pre .1) (c .before .before .before .before .before .loop .inv) (told-some (c .before .before .before .before .before .before .before .before .args .flexible) (c .before .before .before .before .before .before .before .before .pre .0)) (c .before .before .before .before .loop-test .taken) (told-wide (c .before .before .before .before .before .before .before .before .args .flexible) (c .before .before .before .before .before .before .before .before .pre .0) _) (c .before .before .untagged-item .ensures)
 
-same-length : tie.Need-same-length Inv-loop μ-loop
-same-length c = search needs
-
 returns : tie.Need-returns Inv-loop μ-loop
-unfolding untaggedItems
 returns c = even-end (c .before .before .before .before .pre .1) (c .before .loop .inv) (c .loop-test .left)
 
 pub untagged-rows-spec : {M : Type 1} → statement M
 untagged-rows-spec =
     tie.close
     (tie.spec
-    Inv-loop
-    μ-loop
-    loop-holds
-    sub-loop
-    sub-untagged-item
-    part-untagged-item-start
-    part-untagged-item-end
-    untagged-item-requires
-    add-p
-    add-i
-    loop-less
-    loop-again
-    same-length
-    returns)
+    Inv-loop μ-loop loop-holds sub-loop sub-untagged-item part-untagged-item-start (λ c. search needs) untagged-item-requires add-p
+    (λ c. search needs) loop-less loop-again (λ c. search needs) returns)

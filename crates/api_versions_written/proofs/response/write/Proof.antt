@@ -9,35 +9,14 @@ use borrow.Author.Needs.{needs}
 use Rattle.api_versions_written.proofs.response.write.Statement.{statement}
 use Rattle.api_versions_written.proofs.response.write.Tie as tie
 
-version-of-requires : tie.Need-version-of-requires
-version-of-requires c κs = search needs
-
-at-requires : tie.Need-at-requires
-at-requires c κs = search needs
-
 returns : tie.Need-returns
 returns c = unwritten _ _ _ (c .before .before .version-of .ensures ∙ ap versionOf (toZ-ofZ (c .before .before .before .before .before .before .before .fits .version))) (c .before .if1 .taken) _ _ _ _ (c .at .ensures)
 
-given-requires : tie.Need-given-requires
-given-requires c κs = search needs
-
-written-requires : tie.Need-written-requires
-written-requires c κs = search needs
-
-same-length : tie.Need-same-length
-same-length c = search needs
-
 returns-2 : tie.Need-returns-2
-returns-2 c = response-written (c .before .before .before .before .before .before .before .before .before .before .before .args .lent .now) _ _ (c .before .before .before .before .before .before .before .before .before .before .before .args .body .tags) (c .before .before .before .before .before .before .before .before .before .before .before .args .items .now) (c .before .before .before .before .before .before .before .before .before .before .before .args .tags .now) _ (omega arith) (λ i. omega (arith, c .before .before .before .before .before .before .before .before .shared-slice-known2 .given i)) (λ i. omega (arith, c .before .before .before .before .before .before .before .shared-slice-known3 .given i)) (omega arith) _ (c .before .before .before .before .before .if1 .left) (c .before .before .before .before .before .before .before .before .before .before .before .args .body .throttle) _ (c .before .before .before .before .before .before .version-of .ensures ∙ ap versionOf (toZ-ofZ (c .before .before .before .before .before .before .before .before .before .before .before .fits .version))) (c .before .before .before .before .given .ensures) _ (c .before .before .written .ensures)
+returns-2 c = response-written (c .before .before .before .before .before .before .before .before .before .before .before .args .lent .now) (c .before .before .before .before .before .before .before .before .before .before .before .args .body .error) (c .before .before .before .before .before .before .before .before .before .before .before .args .body .items) (c .before .before .before .before .before .before .before .before .before .before .before .args .body .tags) (c .before .before .before .before .before .before .before .before .before .before .before .args .items .now) (c .before .before .before .before .before .before .before .before .before .before .before .args .tags .now) _ (omega arith) (λ i. omega (arith, c .before .before .before .before .before .before .before .before .shared-slice-known2 .given i)) (λ i. omega (arith, c .before .before .before .before .before .before .before .shared-slice-known3 .given i)) (omega arith) _ (c .before .before .before .before .before .if1 .left) (c .before .before .before .before .before .before .before .before .before .before .before .args .body .throttle) _ (c .before .before .before .before .before .before .version-of .ensures ∙ ap versionOf (toZ-ofZ (c .before .before .before .before .before .before .before .before .before .before .before .fits .version))) (c .before .before .before .before .given .ensures) _ (c .before .before .written .ensures)
 
 pub write-spec : {M : Type 1} → statement M
 write-spec =
     tie.close
     (tie.spec
-    version-of-requires
-    at-requires
-    returns
-    given-requires
-    written-requires
-    same-length
-    returns-2)
+    (λ c κs. search needs) (λ c κs. search needs) returns (λ c κs. search needs) (λ c κs. search needs) (λ c. search needs) returns-2)

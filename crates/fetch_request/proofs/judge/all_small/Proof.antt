@@ -16,44 +16,14 @@ abbrev μ-loop : tie.MeasureT-loop
 loop-holds : tie.Need-loop-holds Inv-loop μ-loop
 loop-holds c = judged-start _ _ _
 
-mul-is-small : tie.Need-mul-is-small Inv-loop μ-loop
-mul-is-small c = search needs
-
-is-small-requires : tie.Need-is-small-requires Inv-loop μ-loop
-is-small-requires c κs = search needs
-
-mul-is-small-2 : tie.Need-mul-is-small-2 Inv-loop μ-loop
-mul-is-small-2 c = search needs
-
-add-is-small : tie.Need-add-is-small Inv-loop μ-loop
-add-is-small c = search needs
-
-is-small-requires-2 : tie.Need-is-small-requires-2 Inv-loop μ-loop
-is-small-requires-2 c κs = search needs
-
 returns : tie.Need-returns Inv-loop μ-loop
 returns c = pair-first (c .before .before .before .before .loop .inv) (c .before .before .is-small .ensures) (c .before .before .before .loop-test .taken) (not-true _ (c .if1 .taken))
 
 returns-2 : tie.Need-returns-2 Inv-loop μ-loop
 returns-2 c = pair-second (c .before .before .before .before .before .loop .inv) (c .before .before .before .is-small .ensures) (c .before .before .before .before .loop-test .taken) (not-false _ (c .before .if1 .left)) (c .before .before .is-small2 .ensures) (not-true _ (c .if2 .taken))
 
-add-turn : tie.Need-add-turn Inv-loop μ-loop
-add-turn c = search needs
-
-loop-less : tie.Need-loop-less Inv-loop μ-loop
-loop-less c = search needs
-
 loop-again : tie.Need-loop-again Inv-loop μ-loop
 loop-again c = pair-more (c .before .before .before .before .before .loop .inv) (c .before .before .before .is-small .ensures) (c .before .before .before .before .loop-test .taken) (not-false _ (c .before .if1 .left)) (c .before .before .is-small2 .ensures) (not-false _ (c .if2 .left))
-
-mul-if3 : tie.Need-mul-if3 Inv-loop μ-loop
-mul-if3 c = search needs
-
-mul-is-small-3 : tie.Need-mul-is-small-3 Inv-loop μ-loop
-mul-is-small-3 c = search needs
-
-is-small-requires-3 : tie.Need-is-small-requires-3 Inv-loop μ-loop
-is-small-requires-3 c κs = search needs
 
 returns-3 : tie.Need-returns-3 Inv-loop μ-loop
 returns-3 c = odd-last (c .before .before .before .loop .inv) (c .is-small3 .ensures) (c .before .before .loop-test .left) (c .before .if3 .taken)
@@ -65,21 +35,5 @@ pub all-small-spec : {M : Type 1} → statement M
 all-small-spec =
     tie.close
     (tie.spec
-    Inv-loop
-    μ-loop
-    loop-holds
-    mul-is-small
-    is-small-requires
-    mul-is-small-2
-    add-is-small
-    is-small-requires-2
-    returns
-    returns-2
-    add-turn
-    loop-less
-    loop-again
-    mul-if3
-    mul-is-small-3
-    is-small-requires-3
-    returns-3
-    returns-4)
+    Inv-loop μ-loop loop-holds (λ c. search needs) (λ c κs. search needs) (λ c. search needs) (λ c. search needs) (λ c κs. search needs) returns
+    returns-2 (λ c. search needs) (λ c. search needs) loop-again (λ c. search needs) (λ c. search needs) (λ c κs. search needs) returns-3 returns-4)

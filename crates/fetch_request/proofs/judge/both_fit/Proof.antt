@@ -7,19 +7,14 @@ use Rattle.fetch_request.proofs.Fits.{and-first, and-second, is-held}
 use Rattle.fetch_request.proofs.judge.both_fit.Statement.{statement}
 use Rattle.fetch_request.proofs.judge.both_fit.Tie as tie
 
-fits-requires : tie.Need-fits-requires
-fits-requires c κs = search needs
-
 returns : tie.Need-returns
 unfolding bothHold
 returns c = and-first _ _ _ (c .before .fits2 .ensures ∙ is-held _) (not-true _ (c .if1 .taken))
-
-fits-requires-2 : tie.Need-fits-requires-2
-fits-requires-2 c κs = search needs
 
 returns-2 : tie.Need-returns-2
 unfolding bothHold
 returns-2 c = and-second _ _ _ (c .before .before .fits2 .ensures ∙ is-held _) (not-false _ (c .before .if1 .left)) _ (c .fits3 .ensures ∙ is-held _)
 
 pub both-fit-spec : {M : Type 1} → statement M
-both-fit-spec = tie.close (tie.spec fits-requires returns fits-requires-2 returns-2)
+both-fit-spec = tie.close (tie.spec
+    (λ c κs. search needs) returns (λ c κs. search needs) returns-2)

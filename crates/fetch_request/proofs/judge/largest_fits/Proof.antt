@@ -4,9 +4,6 @@ use Rattle.fetch_request.proofs.Fits.{largest-lacking, largest-there}
 use Rattle.fetch_request.proofs.judge.largest_fits.Statement.{statement}
 use Rattle.fetch_request.proofs.judge.largest_fits.Tie as tie
 
-fits-requires : tie.Need-fits-requires
-fits-requires c κs = search needs
-
 returns : tie.Need-returns
 returns c = largest-there (c .before .before .args .b) _ (c .before .if1 .taken) _ (c .fits2 .ensures)
 
@@ -14,4 +11,5 @@ returns-2 : tie.Need-returns-2
 returns-2 c = largest-lacking (c .before .args .b) _ (c .if1 .left)
 
 pub largest-fits-spec : {M : Type 1} → statement M
-largest-fits-spec = tie.close (tie.spec fits-requires returns returns-2)
+largest-fits-spec = tie.close (tie.spec
+    (λ c κs. search needs) returns returns-2)

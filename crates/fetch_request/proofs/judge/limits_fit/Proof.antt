@@ -1,24 +1,16 @@
 -- Both must hold.
 use borrow.Author.Needs.{needs}
 use borrow.Author.Tests.{not-false, not-true}
-use Rattle.fetch_request.specs.Judged.{limitsHold}
 use Rattle.fetch_request.proofs.Fits.{and-first, and-second}
 use Rattle.fetch_request.proofs.judge.limits_fit.Statement.{statement}
 use Rattle.fetch_request.proofs.judge.limits_fit.Tie as tie
 
-largest-fits-requires : tie.Need-largest-fits-requires
-largest-fits-requires c κs = search needs
-
 returns : tie.Need-returns
-unfolding limitsHold
 returns c = and-first _ _ _ (c .before .largest-fits .ensures) (not-true _ (c .if1 .taken))
 
-level-fits-requires : tie.Need-level-fits-requires
-level-fits-requires c κs = search needs
-
 returns-2 : tie.Need-returns-2
-unfolding limitsHold
 returns-2 c = and-second _ _ _ (c .before .before .largest-fits .ensures) (not-false _ (c .before .if1 .left)) _ (c .level-fits .ensures)
 
 pub limits-fit-spec : {M : Type 1} → statement M
-limits-fit-spec = tie.close (tie.spec largest-fits-requires returns level-fits-requires returns-2)
+limits-fit-spec = tie.close (tie.spec
+    (λ c κs. search needs) returns (λ c κs. search needs) returns-2)

@@ -1,20 +1,16 @@
 -- A version that lacks the field writes nothing.
-use Rattle.fetch_request.proofs.Walk.{number-lacking, number-there}
+use Rattle.rows.proofs.Capped.{capped, capped-lacking, capped-there}
+use Rattle.put.proofs.Stored.{put-step}
 use borrow.Author.Needs.{needs}
 use Rattle.fetch_request.proofs.writing.number_if.Statement.{statement}
 use Rattle.fetch_request.proofs.writing.number_if.Tie as tie
 
-lowest-requires : tie.Need-lowest-requires
-lowest-requires c κs = search needs
-
-same-length : tie.Need-same-length
-same-length c = search needs
-
 returns : tie.Need-returns
-returns c = number-there _ _ _ (c .before .before .before .before .if1 .taken) (c .before .before .lowest .ensures)
+returns c = capped-there _ (c .before .before .before .before .if1 .taken) (capped (put-step (c .before .before .lowest .ensures)))
 
 returns-2 : tie.Need-returns-2
-returns-2 c = number-lacking _ _ _ (c .if1 .left) _
+returns-2 c = capped-lacking _ (c .if1 .left) _ _
 
 pub number-if-spec : {M : Type 1} → statement M
-number-if-spec = tie.close (tie.spec lowest-requires same-length returns returns-2)
+number-if-spec = tie.close (tie.spec
+    (λ c κs. search needs) (λ c. search needs) returns returns-2)

@@ -7,20 +7,11 @@ use borrow.Author.Needs.{needs}
 use Rattle.fetch_request.proofs.writing.partitions.Statement.{statement}
 use Rattle.fetch_request.proofs.writing.partitions.Tie as tie
 
-mul-all : tie.Need-mul-all
-mul-all c = search needs
-
-slice-relend-prefix-rows : tie.Need-slice-relend-prefix-rows
-slice-relend-prefix-rows c = search needs
-
 slice-aggregate-rows : tie.Need-slice-aggregate-rows
 slice-aggregate-rows c = sym (length-take-le _ _ (c .before .if1 .taken))
 
 rows-requires : tie.Need-rows-requires
 rows-requires c κs = length-take-le _ _ (c .before .if1 .taken)
-
-same-length : tie.Need-same-length
-same-length c = search needs
 
 returns : tie.Need-returns
 returns c = front-all (partitions-wide _) (c .before .before .before .before .if1 .taken) (c .before .before .rows .ensures)
@@ -32,10 +23,4 @@ pub partitions-spec : {M : Type 1} → statement M
 partitions-spec =
     tie.close
     (tie.spec
-    mul-all
-    slice-relend-prefix-rows
-    slice-aggregate-rows
-    rows-requires
-    same-length
-    returns
-    returns-2)
+    (λ c. search needs) (λ c. search needs) slice-aggregate-rows rows-requires (λ c. search needs) returns returns-2)

@@ -4,14 +4,16 @@ use Prim.Native.Nat.{_-_}
 use native.Mathlib.Omega.{arith}
 use lib.Dec.{lit<}
 use lib.ListN.{length}
-use Rattle.fetch_request.specs.Written.{partitionBytes, partitionsBytes}
+use mathlib.Core.List.{[]}
+use Rattle.rows.specs.Writes.{rowBytes, rowsBytes}
+use Rattle.fetch_request.specs.Shapes.{partitionShape}
 use Rattle.put.proofs.Even.{Even, even-end, even-inside, even-left, even-more, even-start}
 use Rattle.fetch_request.proofs.Walk.{first-row, last-row, partition-wide, second-left, second-room}
 use Rattle.fetch_request.proofs.writing.rows.Statement.{statement}
 use Rattle.fetch_request.proofs.writing.rows.Tie as tie
 
 abbrev Inv-loop : tie.InvT-loop
-Inv-loop out₀ table p₀ i₀ out p i = Even partitionBytes 16 3 table out₀ i p out
+Inv-loop out₀ table p₀ i₀ out p i = Even (rowBytes [] partitionShape) 16 3 table out₀ i p out
 
 abbrev μ-loop : tie.MeasureT-loop
 μ-loop out₀ table p₀ i₀ out p i = length out₀ - p
@@ -25,41 +27,14 @@ sub-loop c = even-inside (c .before .before .before .pre) (c .loop .inv)
 sub-partition : tie.Need-sub-partition Inv-loop μ-loop
 sub-partition c = even-inside (c .before .before .before .before .pre) (c .before .loop .inv)
 
-part-partition-start : tie.Need-part-partition-start Inv-loop μ-loop
-part-partition-start c = search needs
-
-part-partition-end : tie.Need-part-partition-end Inv-loop μ-loop
-part-partition-end c = search needs
-
 partition-requires : tie.Need-partition-requires Inv-loop μ-loop
 partition-requires c κs = even-left (c .before .before .before .before .before .pre) (c .before .before .loop .inv) (lit< tt) (omega (arith, (c .before .loop-test .taken)))
-
-add-p : tie.Need-add-p Inv-loop μ-loop
-add-p c = search needs
-
-add-i : tie.Need-add-i Inv-loop μ-loop
-add-i c = search needs
 
 sub-partition-2 : tie.Need-sub-partition-2 Inv-loop μ-loop
 sub-partition-2 c = even-inside (c .before .before .before .before .before .before .before .before .pre) (first-row (c .before .before .before .before .before .before .before .before .pre) (c .before .before .before .before .before .loop .inv) (c .before .before .partition .ensures) (c .before .before .before .before .loop-test .taken))
 
-part-partition-start-2 : tie.Need-part-partition-start-2 Inv-loop μ-loop
-part-partition-start-2 c = search needs
-
-part-partition-end-2 : tie.Need-part-partition-end-2 Inv-loop μ-loop
-part-partition-end-2 c = search needs
-
 partition-requires-2 : tie.Need-partition-requires-2 Inv-loop μ-loop
 partition-requires-2 c κs = second-left (c .before .before .before .before .before .before .before .before .before .pre) (c .before .before .before .before .before .before .loop .inv) (c .before .before .before .partition .ensures) (c .before .before .before .before .before .loop-test .taken)
-
-add-p-2 : tie.Need-add-p-2 Inv-loop μ-loop
-add-p-2 c = search needs
-
-add-i-2 : tie.Need-add-i-2 Inv-loop μ-loop
-add-i-2 c = search needs
-
-loop-less : tie.Need-loop-less Inv-loop μ-loop
-loop-less c = search needs
 
 loop-again : tie.Need-loop-again Inv-loop μ-loop
 loop-again c = even-more (c .before .before .before .before .before .before .before .before .before .before .before .before .pre) (first-row (c .before .before .before .before .before .before .before .before .before .before .before .before .pre) (c .before .before .before .before .before .before .before .before .before .loop .inv) (c .before .before .before .before .before .before .partition .ensures) (c .before .before .before .before .before .before .before .before .loop-test .taken)) (lit< tt) (second-room (c .before .before .before .before .before .before .before .before .before .before .before .before .pre) (c .before .before .before .before .before .before .before .before .before .loop .inv) (c .before .before .before .before .before .before .partition .ensures) (c .before .before .before .before .before .before .before .before .loop-test .taken)) (partition-wide _) (c .before .before .partition2 .ensures)
@@ -70,60 +45,21 @@ sub-if1 c = even-inside (c .before .before .before .before .pre) (c .before .loo
 sub-partition-3 : tie.Need-sub-partition-3 Inv-loop μ-loop
 sub-partition-3 c = even-inside (c .before .before .before .before .before .pre) (c .before .before .loop .inv)
 
-part-partition-start-3 : tie.Need-part-partition-start-3 Inv-loop μ-loop
-part-partition-start-3 c = search needs
-
-part-partition-end-3 : tie.Need-part-partition-end-3 Inv-loop μ-loop
-part-partition-end-3 c = search needs
-
 partition-requires-3 : tie.Need-partition-requires-3 Inv-loop μ-loop
 partition-requires-3 c κs = even-left (c .before .before .before .before .before .before .pre) (c .before .before .before .loop .inv) (lit< tt) (c .before .if1 .taken)
-
-add-result : tie.Need-add-result Inv-loop μ-loop
-add-result c = search needs
-
-same-length : tie.Need-same-length Inv-loop μ-loop
-same-length c = search needs
 
 returns : tie.Need-returns Inv-loop μ-loop
 returns c = last-row (c .before .before .before .before .before .before .before .before .before .pre) (c .before .before .before .before .before .before .loop .inv) (c .before .before .partition3 .ensures) (c .before .before .before .before .if1 .taken) (c .before .before .before .before .before .loop-test .left)
 
-same-length-2 : tie.Need-same-length-2 Inv-loop μ-loop
-same-length-2 c = search needs
-
 returns-2 : tie.Need-returns-2 Inv-loop μ-loop
-unfolding partitionsBytes
+unfolding rowsBytes
 returns-2 c = even-end (c .before .before .before .before .before .pre) (c .before .before .loop .inv) (c .if1 .left)
 
 pub rows-spec : {M : Type 1} → statement M
 rows-spec =
     tie.close
     (tie.spec
-    Inv-loop
-    μ-loop
-    loop-holds
-    sub-loop
-    sub-partition
-    part-partition-start
-    part-partition-end
-    partition-requires
-    add-p
-    add-i
-    sub-partition-2
-    part-partition-start-2
-    part-partition-end-2
-    partition-requires-2
-    add-p-2
-    add-i-2
-    loop-less
-    loop-again
-    sub-if1
-    sub-partition-3
-    part-partition-start-3
-    part-partition-end-3
-    partition-requires-3
-    add-result
-    same-length
-    returns
-    same-length-2
-    returns-2)
+    Inv-loop μ-loop loop-holds sub-loop sub-partition (λ c. search needs) (λ c. search needs) partition-requires (λ c. search needs)
+    (λ c. search needs) sub-partition-2 (λ c. search needs) (λ c. search needs) partition-requires-2 (λ c. search needs) (λ c. search needs)
+    (λ c. search needs) loop-again sub-if1 sub-partition-3 (λ c. search needs) (λ c. search needs) partition-requires-3 (λ c. search needs)
+    (λ c. search needs) returns (λ c. search needs) returns-2)

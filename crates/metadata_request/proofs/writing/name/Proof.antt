@@ -1,38 +1,8 @@
 -- The row's cells stand in the table from twice its number on.
-use Rattle.metadata_request.proofs.Names.{name-put}
+use Rattle.metadata_request.proofs.Request.{name-put}
 use borrow.Author.Needs.{needs}
 use Rattle.metadata_request.proofs.writing.name.Statement.{statement}
 use Rattle.metadata_request.proofs.writing.name.Tie as tie
-
-mul-part : tie.Need-mul-part
-mul-part c = search needs
-
-mul-part-2 : tie.Need-mul-part-2
-mul-part-2 c = search needs
-
-shared-slice-read-part : tie.Need-shared-slice-read-part
-shared-slice-read-part c = search needs
-
-mul-part-3 : tie.Need-mul-part-3
-mul-part-3 c = search needs
-
-add-part : tie.Need-add-part
-add-part c = search needs
-
-mul-part-4 : tie.Need-mul-part-4
-mul-part-4 c = search needs
-
-shared-slice-read-part-2 : tie.Need-shared-slice-read-part-2
-shared-slice-read-part-2 c = search needs
-
-part-requires : tie.Need-part-requires
-part-requires c κs = search needs
-
-sized-requires : tie.Need-sized-requires
-sized-requires c κs = search needs
-
-same-length : tie.Need-same-length
-same-length c = search needs
 
 returns : tie.Need-returns
 returns c = search (needs, name-put)
@@ -41,14 +11,5 @@ pub name-spec : {M : Type 1} → statement M
 name-spec =
     tie.close
     (tie.spec
-    mul-part
-    mul-part-2
-    shared-slice-read-part
-    mul-part-3
-    add-part
-    mul-part-4
-    shared-slice-read-part-2
-    part-requires
-    sized-requires
-    same-length
-    returns)
+    (λ c. search needs) (λ c. search needs) (λ c. search needs) (λ c. search needs) (λ c. search needs) (λ c. search needs) (λ c. search needs)
+    (λ c κs. search needs) (λ c κs. search needs) (λ c. search needs) returns)

@@ -1,27 +1,12 @@
 -- A version that is not known is refused, and at every other the promise is that of the walk.
 use Rattle.primitives.proofs.Versions.{passed, unwritten}
-use Rattle.metadata_request.proofs.Meant.{request-written}
+use Rattle.metadata_request.proofs.Request.{request-written}
 use borrow.Author.Needs.{needs}
 use Rattle.metadata_request.proofs.writing.write.Statement.{statement}
 use Rattle.metadata_request.proofs.writing.write.Tie as tie
 
-version-of-requires : tie.Need-version-of-requires
-version-of-requires c κs = search needs
-
-at-requires : tie.Need-at-requires
-at-requires c κs = search needs
-
 returns : tie.Need-returns
 returns c = unwritten _ _ _ (passed _ (c .before .before .before .before .before .before .fits .version) _ (c .before .before .version-of .ensures)) (c .before .if1 .taken) _ _ _ _ (c .at .ensures)
-
-is-allowed-requires : tie.Need-is-allowed-requires
-is-allowed-requires c κs = search needs
-
-written-requires : tie.Need-written-requires
-written-requires c κs = search needs
-
-same-length : tie.Need-same-length
-same-length c = search needs
 
 returns-2 : tie.Need-returns-2
 returns-2 c = request-written (c .before .before .before .before .before .before .before .before .before .before .args .lent .now) _ (c .before .before .before .before .before .before .before .before .before .before .args .topics .now) _ _ (c .before .before .before .before .before .if1 .left) (c .before .before .before .before .before .before .before .before .before .before .args .body .creation) _ (passed _ (c .before .before .before .before .before .before .before .before .before .before .fits .version) _ (c .before .before .before .before .before .before .version-of .ensures)) _ (c .before .before .before .before .is-allowed .ensures) _ (c .before .before .written .ensures)
@@ -30,10 +15,4 @@ pub write-spec : {M : Type 1} → statement M
 write-spec =
     tie.close
     (tie.spec
-    version-of-requires
-    at-requires
-    returns
-    is-allowed-requires
-    written-requires
-    same-length
-    returns-2)
+    (λ c κs. search needs) (λ c κs. search needs) returns (λ c κs. search needs) (λ c κs. search needs) (λ c. search needs) returns-2)

@@ -1,8 +1,10 @@
 -- Where bytes are missing, so is a node. Else the nodes fill the table from the mark on, as far as it goes, and the mark behind all is known from the start.
 use Prim.Native.Nat.{_-_, _/_}
 use native.Mathlib.Omega.{arith}
+use Rattle.layout.specs.Primitives.{w32}
 use borrow.Author.Needs.{needs}
 use Rattle.topics.proofs.NodeRows.{Filling, filling-end, filling-next, filling-start, filling-there, nodes-missing}
+use Rattle.topics.proofs.Turned.{cell-cut}
 use Rattle.topics.proofs.nodes.nodes_in.Statement.{statement}
 use Rattle.topics.proofs.nodes.nodes_in.Tie as tie
 
@@ -36,8 +38,25 @@ smaller-requires c κs = search needs
 loop-holds : tie.Need-loop-holds Inv-loop μ-loop
 loop-holds c = filling-start _ _ _ _ _ _ (c .before .passed .ensures)
 
+sub-int32-there : tie.Need-sub-int32-there Inv-loop μ-loop
+sub-int32-there c =
+    let h = filling-there _ _ _ _ _ _ _ _ _ (c .before .loop .inv) (λ z. omega arith) (omega arith) in
+    omega arith
+
+part-int32-there-start : tie.Need-part-int32-there-start Inv-loop μ-loop
+part-int32-there-start c =
+    let h = filling-there _ _ _ _ _ _ _ _ _ (c .before .loop .inv) (λ z. omega arith) (omega arith) in
+    omega arith
+
+part-int32-there-end : tie.Need-part-int32-there-end Inv-loop μ-loop
+part-int32-there-end c =
+    let h = filling-there _ _ _ _ _ _ _ _ _ (c .before .loop .inv) (λ z. omega arith) (omega arith) in
+    omega arith
+
 int32-there-requires : tie.Need-int32-there-requires Inv-loop μ-loop
-int32-there-requires c κs = filling-there _ _ _ _ _ _ _ _ _ (c .before .loop .inv) (λ z. omega arith) (omega arith)
+int32-there-requires c κs =
+    let h = filling-there _ _ _ _ _ _ _ _ _ (c .before .before .loop .inv) (λ z. omega arith) (omega arith) in
+    omega arith
 
 mul-table : tie.Need-mul-table Inv-loop μ-loop
 mul-table c = search needs
@@ -50,14 +69,14 @@ add-row c = omega arith
 
 add-place : tie.Need-add-place Inv-loop μ-loop
 add-place c =
-    let h = filling-there _ _ _ _ _ _ _ _ _ (c .before .before .loop .inv) (λ z. omega arith) (omega arith) in
+    let h = filling-there _ _ _ _ _ _ _ _ _ (c .before .before .before .loop .inv) (λ z. omega arith) (omega arith) in
     omega arith
 
 loop-less : tie.Need-loop-less Inv-loop μ-loop
 loop-less c = omega arith
 
 loop-again : tie.Need-loop-again Inv-loop μ-loop
-loop-again c = filling-next _ _ _ _ _ _ _ _ _ (c .before .before .loop .inv) (λ z. omega arith) (omega arith) (omega arith) _ (c .int32-there .ensures)
+loop-again c = filling-next _ _ _ _ _ _ _ _ _ (c .before .before .before .loop .inv) (λ z. omega arith) (omega arith) (omega arith) _ (cell-cut w32 _ _ _ (c .int32-there .ensures))
 
 mul-t13 : tie.Need-mul-t13 Inv-loop μ-loop
 mul-t13 c = omega arith
@@ -85,6 +104,9 @@ nodes-in-spec =
     passed-requires
     smaller-requires
     loop-holds
+    sub-int32-there
+    part-int32-there-start
+    part-int32-there-end
     int32-there-requires
     mul-table
     slice-write-table

@@ -14,11 +14,20 @@ at-requires c κs = search needs
 returns : tie.Need-returns
 returns c = count-missing _ _ (omega arith) _ (c .at .ensures)
 
+sub-turned32 : tie.Need-sub-turned32
+sub-turned32 c = search needs
+
+part-turned32-start : tie.Need-part-turned32-start
+part-turned32-start c = search needs
+
+part-turned32-end : tie.Need-part-turned32-end
+part-turned32-end c = search needs
+
 turned32-requires : tie.Need-turned32-requires
 turned32-requires c κs = search needs
 
-add-t9 : tie.Need-add-t9
-add-t9 c = search needs
+add-t12 : tie.Need-add-t12
+add-t12 c = search needs
 
 returns-2 : tie.Need-returns-2
 returns-2 c = count-took _ _ (omega arith) _ (c .before .turned32 .ensures) (omega arith)
@@ -26,8 +35,8 @@ returns-2 c = count-took _ _ (omega arith) _ (c .before .turned32 .ensures) (ome
 sub-if3 : tie.Need-sub-if3
 sub-if3 c = search needs
 
-add-t11 : tie.Need-add-t11
-add-t11 c = search needs
+add-t14 : tie.Need-add-t14
+add-t14 c = search needs
 
 returns-3 : tie.Need-returns-3
 returns-3 c = count-null _ _ (omega arith) _ (c .before .before .turned32 .ensures) (omega arith)
@@ -45,11 +54,14 @@ count-at-spec =
     less-requires
     at-requires
     returns
+    sub-turned32
+    part-turned32-start
+    part-turned32-end
     turned32-requires
-    add-t9
+    add-t12
     returns-2
     sub-if3
-    add-t11
+    add-t14
     returns-3
     at-requires-2
     returns-4)

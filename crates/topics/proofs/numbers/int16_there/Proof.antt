@@ -13,10 +13,10 @@ add-result : tie.Need-add-result
 add-result c = search needs
 
 returns : tie.Need-returns
-returns c = cell-set w16 _ _ _ (search needs) (c .before .turned16 .ensures) (omega arith)
+returns c = cell-set w16 _ _ (search needs) (c .before .turned16 .ensures) (omega arith)
 
 returns-2 : tie.Need-returns-2
-returns-2 c = cell-unset w16 _ _ _ (search needs) (c .before .turned16 .ensures) (omega arith)
+returns-2 c = cell-unset w16 _ _ (search needs) (c .before .turned16 .ensures) (omega arith)
 
 pub int16-there-spec : {M : Type 1} → statement M
 int16-there-spec = tie.close (tie.spec turned16-requires add-result returns returns-2)

@@ -1,6 +1,6 @@
 -- Below 2^15 the number goes up by 2^15, and from there on down.
 use native.Mathlib.Omega.{arith}
-use Rattle.topics.proofs.Turned.{bytes-2}
+use Rattle.primitives.proofs.Cells.{be-2}
 use borrow.Author.Needs.{needs}
 use Rattle.topics.proofs.numbers.turned16.Statement.{statement}
 use Rattle.topics.proofs.numbers.turned16.Tie as tie
@@ -13,9 +13,6 @@ wide-requires c κs = search needs
 
 mul-n : tie.Need-mul-n
 mul-n c = search needs
-
-add-wide : tie.Need-add-wide
-add-wide c = search needs
 
 shared-slice-read-wide-2 : tie.Need-shared-slice-read-wide-2
 shared-slice-read-wide-2 c = search needs
@@ -30,7 +27,7 @@ add-result : tie.Need-add-result
 add-result c = search needs
 
 returns : tie.Need-returns
-returns c = let h = bytes-2 (c .before .before .before .before .before .args .s .now) (c .before .before .before .before .before .args .p) (search needs) in record { below = omega arith; unset = λ i. omega arith; given = λ i. omega arith }
+returns c = let h = be-2 (c .before .before .before .before .before .args .rest .now) (search needs) in record { below = omega arith; unset = λ i. omega arith; given = λ i. omega arith }
 
 pub turned16-spec : {M : Type 1} → statement M
 turned16-spec =
@@ -39,7 +36,6 @@ turned16-spec =
     shared-slice-read-wide
     wide-requires
     mul-n
-    add-wide
     shared-slice-read-wide-2
     wide-requires-2
     add-n

@@ -1,6 +1,6 @@
 -- Below 2^31 the number goes up by 2^31, and from there on down.
 use native.Mathlib.Omega.{arith}
-use Rattle.topics.proofs.Turned.{bytes-4}
+use Rattle.primitives.proofs.Cells.{be-4}
 use borrow.Author.Needs.{needs}
 use Rattle.topics.proofs.numbers.turned32.Statement.{statement}
 use Rattle.topics.proofs.numbers.turned32.Tie as tie
@@ -14,9 +14,6 @@ wide-requires c κs = search needs
 mul-n : tie.Need-mul-n
 mul-n c = search needs
 
-add-wide : tie.Need-add-wide
-add-wide c = search needs
-
 shared-slice-read-wide-2 : tie.Need-shared-slice-read-wide-2
 shared-slice-read-wide-2 c = search needs
 
@@ -29,9 +26,6 @@ add-n c = search needs
 mul-n-2 : tie.Need-mul-n-2
 mul-n-2 c = search needs
 
-add-wide-2 : tie.Need-add-wide-2
-add-wide-2 c = search needs
-
 shared-slice-read-wide-3 : tie.Need-shared-slice-read-wide-3
 shared-slice-read-wide-3 c = search needs
 
@@ -43,9 +37,6 @@ add-n-2 c = search needs
 
 mul-n-3 : tie.Need-mul-n-3
 mul-n-3 c = search needs
-
-add-wide-3 : tie.Need-add-wide-3
-add-wide-3 c = search needs
 
 shared-slice-read-wide-4 : tie.Need-shared-slice-read-wide-4
 shared-slice-read-wide-4 c = search needs
@@ -60,7 +51,7 @@ add-result : tie.Need-add-result
 add-result c = search needs
 
 returns : tie.Need-returns
-returns c = let h = bytes-4 (c .before .before .before .before .before .before .before .before .before .args .s .now) (c .before .before .before .before .before .before .before .before .before .args .p) (search needs) in record { below = omega arith; unset = λ i. omega arith; given = λ i. omega arith }
+returns c = let h = be-4 (c .before .before .before .before .before .before .before .before .before .args .rest .now) (search needs) in record { below = omega arith; unset = λ i. omega arith; given = λ i. omega arith }
 
 pub turned32-spec : {M : Type 1} → statement M
 turned32-spec =
@@ -69,17 +60,14 @@ turned32-spec =
     shared-slice-read-wide
     wide-requires
     mul-n
-    add-wide
     shared-slice-read-wide-2
     wide-requires-2
     add-n
     mul-n-2
-    add-wide-2
     shared-slice-read-wide-3
     wide-requires-3
     add-n-2
     mul-n-3
-    add-wide-3
     shared-slice-read-wide-4
     wide-requires-4
     add-n-3

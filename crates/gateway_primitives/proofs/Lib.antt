@@ -1,0 +1,2 @@
+-- a promise determines the reply
+pub mod Unique

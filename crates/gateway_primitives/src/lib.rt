@@ -1,0 +1,26 @@
+// The C interface to primitives and tagged fields, each by itself.
+
+pub mod primitive;
+pub mod tagged;
+
+// Tagged fields: the bytes used, and how many tags there are.
+#[repr(C)]
+pub struct TagsNumbers {
+    pub number: u64,
+    pub place: u64,
+    pub need: u64,
+    pub used: u64,
+    pub tags: u64,
+}
+
+// A primitive: `form` is 2 for a value and 1 for null; `value` is the cell of a number, a count, or the start of a part; `length` is that of a part.
+#[repr(C)]
+pub struct PrimitiveNumbers {
+    pub number: u64,
+    pub place: u64,
+    pub need: u64,
+    pub used: u64,
+    pub form: u64,
+    pub value: u64,
+    pub length: u64,
+}
