@@ -12,12 +12,12 @@ use Rattle.layout.proofs.Contents.{rowCells}
 use Rattle.primitives.specs.Answers.{ofRefusal}
 use Rattle.primitives.specs.declared.Refusal as Code
 use Rattle.rows.specs.Store.{State, Tab, add, own, store, tab}
+use Rattle.rows.specs.Tagged.{tagsShape}
 use Rattle.rows.specs.Walk.{Places, Runs, on, walk}
 use Rattle.rows.proofs.Arrays.{row-end}
 use Rattle.rows.proofs.Front.{front-no, front-took, reads-end, reads-no, reads-took}
 use Rattle.rows.proofs.Stores.{store-append}
 use Rattle.tags.specs.Answers as Tags
-use Rattle.tags.specs.Answers.{tagsShape}
 use Rattle.tags.specs.declared.Walked.{Walked}
 use Rattle.api_versions_items.specs.Shapes.{keyFront, keyShape, tagsIf}
 use Rattle.api_versions_items.specs.Walks.{inTables, ofKey, rowsIs}
@@ -64,7 +64,7 @@ module _ (f : Bool) (s : List ℕ) (p : ℕ) (l : List ℕ) (k : ℕ) where
   of-flag : (b : Bool) → f ≡ b → (g : Bool × Places × Tab → Res State) → Runs (λ e. walk (e .0) (tagsIf b (e .1 .t)) (e .1 .o)) s p (Tags.inTables l k) g → Runs (λ e. walk (e .0) (tagsIf f (e .1 .t)) (e .1 .o)) s p (Tags.inTables l k) g
   of-flag b e g h = subst (λ (x : Bool). Runs (λ e. walk (e .0) (tagsIf x (e .1 .t)) (e .1 .o)) s p (Tags.inTables l k) g) (sym e) h
 
-  pub tags-there : f ≡ true → (l′ : List ℕ) (r : Walked) → Runs (λ e. walk (e .0) (tagsShape (e .1 .t)) (e .1 .o)) s p (Tags.inTables l k) (Tags.inTablesIs l′ r) →
+  pub tags-there : f ≡ true → (l′ : List ℕ) (r : Walked) → Runs (λ e. walk (e .0) (tagsShape true (e .1 .t)) (e .1 .o)) s p (Tags.inTables l k) (Tags.inTablesIs l′ r) →
       Runs (λ e. walk (e .0) (tagsIf f (e .1 .t)) (e .1 .o)) s p (Tags.inTables l k) (Tags.inTablesIs l′ r)
   unfolding tagsIf standing stands
   tags-there e l′ r h = of-flag true e (Tags.inTablesIs l′ r) (record { law = λ e. h .law e })

@@ -1,14 +1,10 @@
 -- The layout of a response's items at a version, by what sets the versions apart: f, whether it is flexible (3).
 -- Laws about values, and what writers promise, go into these shapes; what readers promise names them shut, below.
-use mathlib.Core.Bool.{Bool, false, true}
+use mathlib.Core.Bool.{Bool}
 use Prim.Native.Nat.{ℕ}
-use Rattle.layout.specs.Primitives.{plain, w16}
-use Rattle.layout.specs.Rows.{Shape, absent, array, blob, end, field, lacking, natural, number}
-
--- tagged fields, to table t
-abbrev pub tagsShape : Bool → ℕ → Shape
-tagsShape true t = array plain t (field natural (field (blob plain) end)) end
-tagsShape false t = lacking plain t (absent natural (absent (blob plain) end)) end
+use Rattle.layout.specs.Primitives.{w16}
+use Rattle.layout.specs.Rows.{Shape, end, field, number}
+use Rattle.rows.specs.Tagged.{tagsShape}
 
 -- the numbers of an item: key, minimum, maximum
 abbrev pub keyFront : Shape

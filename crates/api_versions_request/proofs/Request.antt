@@ -19,6 +19,7 @@ use Rattle.layout.specs.Write.{basicFault, fault, or, sizedFault, tooLong, unle
 use Rattle.layout.proofs.Proper.{both}
 use Rattle.layout.proofs.Tests.{lt-true}
 use Rattle.rows.specs.Step.{Capped, cap}
+use Rattle.rows.specs.Tagged.{tagShape, tagsShape}
 use Rattle.rows.specs.Writes.{bytesAt, countedBytes, faultAt, refusalOf}
 use Rattle.rows.proofs.Capped.{capped, capped-as, capped-behind, capped-there}
 use Rattle.rows.proofs.Faults.{or-none, or-unless}
@@ -30,12 +31,11 @@ use Rattle.put.proofs.Stored.{put-step}
 use Rattle.ranges.specs.Asked.{allRanged}
 use Rattle.ranges.proofs.Cells.{Cells}
 use Rattle.ranges.proofs.Lent.{good-one}
-use Rattle.tags_written.specs.Tags.{tagShape, tagsShape}
 use Rattle.tags_written.proofs.Tags as Tags
 use Rattle.writers.proofs.Called.{called}
 use Rattle.api_versions_request.specs.Answers.{ofText}
 use Rattle.api_versions_request.specs.declared.Text.{Text}
-use Rattle.api_versions_request.specs.Shapes.{lentRows, requestShape, textField, textsShape}
+use Rattle.api_versions_request.specs.Shapes.{requestShape, textField, textsShape}
 
 is-shape : (v : ℕ) → v ≤ 3 → shape request v ≡ requestShape (leb 3 v)
 unfolding shape at stands standing tagRows requestRows
@@ -48,7 +48,7 @@ is-shape (suc (suc (suc (suc v)))) h = absurd (omega arith)
 -- ---- a text that is unset, and one that is there
 
 abbrev textOf : List ℕ → Text → List ℕ
-textOf lent t = basicOf lent textField (ofText t)
+textOf lent t = basicOf lent (textField true) (ofText t)
 
 module _ (t : Text) where
   pub bytes-absent : t ≡ Text.Absent → (lent x : List ℕ) → x ≡ slice lent (0, 0) → x ≡ textOf lent t
@@ -59,29 +59,29 @@ module _ (t : Text) where
   unfolding basicOf spanOf chosen
   bytes-present h lent x e = e ∙ sym (ap (textOf lent) h)
 
-  pub ranged-absent : t ≡ Text.Absent → (size : ℕ) → true ≡ goodCells size textField (ofText t)
+  pub ranged-absent : t ≡ Text.Absent → (size : ℕ) → true ≡ goodCells size (textField true) (ofText t)
   unfolding goodCells
-  ranged-absent h size = sym (ap (λ (u : Text). goodCells size textField (ofText u)) h)
+  ranged-absent h size = sym (ap (λ (u : Text). goodCells size (textField true) (ofText u)) h)
 
-  pub ranged-present : {a k : ℕ} → t ≡ Text.Present a k → (size : ℕ) (b : Bool) → b ≡ inside size a k → b ≡ goodCells size textField (ofText t)
+  pub ranged-present : {a k : ℕ} → t ≡ Text.Present a k → (size : ℕ) (b : Bool) → b ≡ inside size a k → b ≡ goodCells size (textField true) (ofText t)
   unfolding goodCells goodSpan
-  ranged-present h size b e = e ∙ sym (ap (λ (u : Text). goodCells size textField (ofText u)) h)
+  ranged-present h size b e = e ∙ sym (ap (λ (u : Text). goodCells size (textField true) (ofText u)) h)
 
 -- ---- 13
 
 module _ (size : ℕ) (name version : Text) (own : ℕ) (tags : List ℕ) where
   abbrev judged : Bool
-  judged = good size 1 (requestShape false) (lentRows name version own tags)
+  judged = good size 1 (requestShape false) ((ofText name ++ (ofText version ++ (own ∷ []))) ∷ tags ∷ [])
 
   abbrev tagsJudged : Bool
-  tagsJudged = good size 1 (tagsShape 1) ((own ∷ []) ∷ tags ∷ [])
+  tagsJudged = good size 1 (tagsShape true 1) ((own ∷ []) ∷ tags ∷ [])
 
   and-assoc : (a b x y : Bool) → ((a && (b && x)) && y) ≡ (a && (b && (x && y)))
   and-assoc true true x y = refl
   and-assoc true false x y = refl
   and-assoc false b x y = refl
 
-  own-good : (x y : Text) → goodRow size (requestShape false) (ofText x ++ (ofText y ++ (own ∷ []))) ≡ (goodCells size textField (ofText x) && (goodCells size textField (ofText y) && goodCount true own))
+  own-good : (x y : Text) → goodRow size (requestShape false) (ofText x ++ (ofText y ++ (own ∷ []))) ≡ (goodCells size (textField true) (ofText x) && (goodCells size (textField true) (ofText y) && goodCount true own))
   unfolding goodRow goodCells goodSpan width
   own-good Text.Absent Text.Absent = and-true _
   own-good Text.Absent (Text.Present b m) = ap (λ (z : Bool). inside size b m && z) (and-true _)
@@ -95,18 +95,18 @@ module _ (size : ℕ) (name version : Text) (own : ℕ) (tags : List ℕ) where
   own-told (Text.Present a k) Text.Absent = add-zero (count own)
   own-told (Text.Present a k) (Text.Present b m) = add-zero (count own)
 
-  is-good : judged ≡ (goodCells size textField (ofText name) && (goodCells size textField (ofText version) && tagsJudged))
+  is-good : judged ≡ (goodCells size (textField true) (ofText name) && (goodCells size (textField true) (ofText version) && tagsJudged))
   unfolding kindOf kindIn arrays rowWidth width goodRow goodCells asked
   is-good =
       good-one size (requestShape false) (absent natural (absent (blob plain) end)) 3 1 (count own) _ (ofText name ++ (ofText version ++ (own ∷ []))) tags refl refl (own-good name version) (own-told name version) (Tags.tag-good size) (λ r. refl)
-      ∙ and-assoc (goodCells size textField (ofText name)) (goodCells size textField (ofText version)) (goodCount true own) (allRanged 3 1 size tags && eqb (count own) (length tags / 3))
-      ∙ ap (λ (z : Bool). goodCells size textField (ofText name) && (goodCells size textField (ofText version) && z)) (sym (Tags.is-good size own tags))
+      ∙ and-assoc (goodCells size (textField true) (ofText name)) (goodCells size (textField true) (ofText version)) (goodCount true own) (allRanged 3 1 size tags && eqb (count own) (length tags / 3))
+      ∙ ap (λ (z : Bool). goodCells size (textField true) (ofText name) && (goodCells size (textField true) (ofText version) && z)) (sym (Tags.is-good size own tags))
 
-  module _ (a : Bool) (e : a ≡ goodCells size textField (ofText name)) where
+  module _ (a : Bool) (e : a ≡ goodCells size (textField true) (ofText name)) where
     pub name-out : a ≡ false → false ≡ judged
     name-out h = sym (is-good ∙ rw (← e, h))
 
-    module _ (h : a ≡ true) (b : Bool) (i : b ≡ goodCells size textField (ofText version)) where
+    module _ (h : a ≡ true) (b : Bool) (i : b ≡ goodCells size (textField true) (ofText version)) where
       pub version-out : b ≡ false → false ≡ judged
       version-out k = sym (is-good ∙ rw (← e, h, ← i, k))
 
@@ -114,34 +114,23 @@ module _ (size : ℕ) (name version : Text) (own : ℕ) (tags : List ℕ) where
       request-last k r j = j ∙ sym (is-good ∙ rw (← e, h, ← i, k))
 
   good-rows : judged ≡ true → count own ≡ length tags / 3
-  good-rows g = Tags.good-rows size own tags (both (goodCells size textField (ofText version)) _ (both (goodCells size textField (ofText name)) _ (sym is-good ∙ g) .1) .1)
+  good-rows g = Tags.good-rows size own tags (both (goodCells size (textField true) (ofText version)) _ (both (goodCells size (textField true) (ofText name)) _ (sym is-good ∙ g) .1) .1)
 
 -- ---- 7
 
-module _ (f : Bool) (name version : List ℕ) where
-  pub texts-lacking : f ≡ false → true ≡ cond f (utf8 name && utf8 version) true
-  texts-lacking h = sym (rw h)
-
-  module _ (h : f ≡ true) (a : Bool) (e : a ≡ utf8 name) where
-    pub name-bad : a ≡ false → false ≡ cond f (utf8 name && utf8 version) true
-    name-bad k = sym (rw (h, ← e, k))
-
-    pub texts-last : a ≡ true → (r : Bool) → r ≡ utf8 version → r ≡ cond f (utf8 name && utf8 version) true
-    texts-last k r j = j ∙ sym (rw (h, ← e, k))
-
 module _ (lent : List ℕ) (name version : Text) (own : ℕ) (tags : List ℕ) where
   abbrev rows : Tables
-  rows = lentRows name version own tags
+  rows = (ofText name ++ (ofText version ++ (own ∷ []))) ∷ tags ∷ []
 
   abbrev behind : Tables
   behind = (own ∷ []) ∷ tags ∷ []
 
   -- the texts, and the tables behind them
-  texts-value : valueOf lent textsShape 0 rows ≡ ((textOf lent name, (textOf lent version, tt)), behind)
+  texts-value : valueOf lent (textsShape end) 0 rows ≡ ((textOf lent name, (textOf lent version, tt)), behind)
   unfolding valueOf pop width
   texts-value = go name version
     where
-      go : (x y : Text) → valueOf lent textsShape 0 (lentRows x y own tags) ≡ ((textOf lent x, (textOf lent y, tt)), behind)
+      go : (x y : Text) → valueOf lent (textsShape end) 0 ((ofText x ++ (ofText y ++ (own ∷ []))) ∷ tags ∷ []) ≡ ((textOf lent x, (textOf lent y, tt)), behind)
       go Text.Absent Text.Absent = refl
       go Text.Absent (Text.Present b m) = refl
       go (Text.Present a k) Text.Absent = refl
@@ -151,16 +140,16 @@ module _ (lent : List ℕ) (name version : Text) (own : ℕ) (tags : List ℕ) w
   refusal f = refusalOf lent 1 (requestShape false) (requestShape f) rows
 
   module _ (l : length lent < 2 ^ 64 - 1) (cells : Cells tags) (few : length tags < 2 ^ 64) where
-    text-fault : (t : Text) → basicFault textField (textOf lent t) ≡ unless (utf8 (textOf lent t)) 7
+    text-fault : (t : Text) → basicFault (textField true) (textOf lent t) ≡ unless (utf8 (textOf lent t)) 7
     unfolding basicFault sizedFault tooLong unless or
     text-fault t = refl
 
     is-fault : count own ≡ length tags / 3 → (f : Bool) → faultAt lent (requestShape f) 0 rows ≡ unless (cond f (utf8 (textOf lent name) && utf8 (textOf lent version)) true) 7
     unfolding faultAt fault unless
     is-fault n true =
-        joined-fault lent (tagsShape 1) 0 textsShape rows
-        ∙ (λ t. or (fault textsShape (texts-value t .0)) (faultAt lent (tagsShape 1) 0 (texts-value t .1)))
-        ∙ ap (or (fault textsShape (textOf lent name, (textOf lent version, tt)))) (Tags.tags-clean lent 0 1 behind (λ u. omega arith) (lit< tt) (omega (arith, n)) cells (omega arith))
+        joined-fault lent (tagsShape true 1) 0 (textsShape end) rows
+        ∙ (λ t. or (fault (textsShape end) (texts-value t .0)) (faultAt lent (tagsShape true 1) 0 (texts-value t .1)))
+        ∙ ap (or (fault (textsShape end) (textOf lent name, (textOf lent version, tt)))) (Tags.tags-clean lent 0 1 behind (λ u. omega arith) (lit< tt) (omega (arith, n)) cells (omega arith))
         ∙ or-none _
         ∙ (λ t. or (text-fault name t) (or-none (text-fault version t) t))
         ∙ or-unless (utf8 (textOf lent name)) (utf8 (textOf lent version)) 6
@@ -171,30 +160,22 @@ module _ (lent : List ℕ) (name version : Text) (own : ℕ) (tags : List ℕ) w
       fault-bad = refusal-bad lent 1 (requestShape false) (requestShape f) rows e
 
       module _ (h : a ≡ true) {x y : List ℕ} (u : x ≡ textOf lent name) (v : y ≡ textOf lent version) (b : Bool) (i : b ≡ cond f (utf8 x && utf8 y) true) where
-        told : unless b 7 ≡ refusal f
-        told =
+        pub is-told : unless b 7 ≡ refusal f
+        is-told =
             refusal-good lent 1 (requestShape false) (requestShape f) rows e h (unless b 7)
             (ap (λ (z : Bool). unless z 7) (i ∙ (λ t. cond f (utf8 (u t) && utf8 (v t)) true)) ∙ sym (is-fault (good-rows (length lent) name version own tags (sym e ∙ h)) f))
-
-        pub fault-text : b ≡ false → 7 ≡ refusal f
-        unfolding unless
-        fault-text k = sym (ap (λ (z : Bool). unless z 7) k) ∙ told
-
-        pub fault-none : b ≡ true → 0 ≡ refusal f
-        unfolding unless
-        fault-none k = sym (ap (λ (z : Bool). unless z 7) k) ∙ told
 
   -- ---- the bytes
 
   abbrev bytesOf : Bool → List ℕ → List ℕ → List ℕ
-  bytesOf f x y = cond f (write textsShape (x, (y, tt)) ++ countedBytes lent tagShape plain 3 tags) []
+  bytesOf f x y = cond f (write (textsShape end) (x, (y, tt)) ++ countedBytes lent tagShape plain 3 tags) []
 
   is-bytes : count own ≡ length tags / 3 → (f : Bool) → bytesAt lent (requestShape f) 0 rows ≡ bytesOf f (textOf lent name) (textOf lent version)
   unfolding bytesAt write
   is-bytes n true =
-      joined-bytes lent (tagsShape 1) 0 textsShape rows
-      ∙ (λ t. write textsShape (texts-value t .0) ++ bytesAt lent (tagsShape 1) 0 (texts-value t .1))
-      ∙ ap (λ (z : List ℕ). write textsShape (textOf lent name, (textOf lent version, tt)) ++ z) (Tags.tags-bytes lent 0 1 behind (λ u. omega arith) (lit< tt) n)
+      joined-bytes lent (tagsShape true 1) 0 (textsShape end) rows
+      ∙ (λ t. write (textsShape end) (texts-value t .0) ++ bytesAt lent (tagsShape true 1) 0 (texts-value t .1))
+      ∙ ap (λ (z : List ℕ). write (textsShape end) (textOf lent name, (textOf lent version, tt)) ++ z) (Tags.tags-bytes lent 0 1 behind (λ u. omega arith) (lit< tt) n)
   is-bytes n false = refl
 
   -- no number is given: the count tells the tags
@@ -211,7 +192,7 @@ module _ (lent : List ℕ) (name version : Text) (own : ℕ) (tags : List ℕ) w
 -- ---- the walk
 
 module _ {d d₁ e : List ℕ} {n m : ℕ} (at : ℕ) (h : at ≡ min n (length d₁)) (r : ℕ) (k : cap r ≡ cap (n + m)) where
-  pub texts-put : (name version : List ℕ) → Put (behindLength (sizeOf Form.Compact) name) d n d₁ → Put (behindLength (sizeOf Form.Compact) version) (midOf at (length d₁ - at) d₁) m e → Capped (write textsShape (name, (version, tt))) d r (putMid at (length d₁ - at) d₁ e)
+  pub texts-put : (name version : List ℕ) → Put (behindLength (sizeOf Form.Compact) name) d n d₁ → Put (behindLength (sizeOf Form.Compact) version) (midOf at (length d₁ - at) d₁) m e → Capped (write (textsShape end) (name, (version, tt))) d r (putMid at (length d₁ - at) d₁ e)
   unfolding write writeBasic sizedBytes behindLength
   texts-put name version p q = capped-as (ap (λ (z : List ℕ). behindLength (sizeOf Form.Compact) name ++ z) (sym (append-nil _))) (capped-behind (capped (put-step p)) at h (capped (put-step q)) r k)
 

@@ -1,5 +1,5 @@
 -- The request's fields one behind the other: each way out of the walk over them.
-use mathlib.Core.Bool.{false}
+use mathlib.Core.Bool.{false, true}
 use mathlib.Core.List.{List, [], _∷_}
 use mathlib.Core.Path.{_∙_, _≡_, ap, refl, sym}
 use Prim.Native.Nat.{_<_, _≤_, ℕ}
@@ -16,11 +16,12 @@ use Rattle.layout.proofs.Tests.{le-false}
 use Rattle.primitives.specs.Answers.{ofRefusal}
 use Rattle.primitives.specs.declared.Refusal as Code
 use Rattle.rows.specs.Store.{State, Tab, add, own, put, store, tab}
+use Rattle.rows.specs.Tagged.{tagsShape}
 use Rattle.rows.specs.Walk.{Runs, on, walk}
 use Rattle.rows.proofs.Arrays.{row-end}
 use Rattle.rows.proofs.OneTable.{alone}
 use Rattle.rows.proofs.Fields.{field-no, field-took}
-use Rattle.tags.specs.Answers.{inTables, inTablesIs, tagsShape}
+use Rattle.tags.specs.Answers.{inTables, inTablesIs}
 use Rattle.tags.specs.declared.Walked.{Walked}
 
 abbrev start : List ℕ → List ℕ → State
@@ -34,7 +35,7 @@ compactString = text (compact never)
 abbrev some-text : Basic
 some-text = optional (0 ∷ 0 ∷ []) compactString
 
-is-flexible : field some-text (field some-text (tagsShape 1)) ≡ shape Api.request 3
+is-flexible : field some-text (field some-text (tagsShape true 1)) ≡ shape Api.request 3
 unfolding shape at stands standing tagRows requestRows
 is-flexible = refl
 
@@ -42,28 +43,28 @@ module _ (s l : List ℕ) where
   abbrev walked : Res State
   walked = on (walk false (shape Api.request 3) 0 (start l [])) s 0
 
-  whole : {z : Res State} → z ≡ on (walk false (field some-text (field some-text (tagsShape 1))) 0 (start l [])) s 0 → z ≡ walked
+  whole : {z : Res State} → z ≡ on (walk false (field some-text (field some-text (tagsShape true 1))) 0 (start l [])) s 0 → z ≡ walked
   whole e = e ∙ ap (λ (y : Shape). on (walk false y 0 (start l [])) s 0) is-flexible
 
   pub no-name : (c : Refusal) → bad c ≡ on (readBasic (byPlace false) compactString) s 0 → bad c ≡ walked
   unfolding readBasic
-  no-name c e = whole (field-no false some-text (field some-text (tagsShape 1)) 0 (start l []) s 0 c e)
+  no-name c e = whole (field-no false some-text (field some-text (tagsShape true 1)) 0 (start l []) s 0 c e)
 
   module _ (a k q : ℕ) (d : ok (a, k) q ≡ on (readBasic (byPlace false) compactString) s 0) where
-    behind-name : {z : Res State} → z ≡ on (walk false (field some-text (tagsShape 1)) 0 (start l (2 ∷ a ∷ k ∷ []))) s q → z ≡ walked
+    behind-name : {z : Res State} → z ≡ on (walk false (field some-text (tagsShape true 1)) 0 (start l (2 ∷ a ∷ k ∷ []))) s q → z ≡ walked
     unfolding readBasic cells span add store put
-    behind-name e = whole (field-took false some-text (field some-text (tagsShape 1)) 0 (start l []) s 0 (a, k) q _ d e)
+    behind-name e = whole (field-took false some-text (field some-text (tagsShape true 1)) 0 (start l []) s 0 (a, k) q _ d e)
 
     pub no-version : (c : Refusal) → bad c ≡ on (readBasic (byPlace false) compactString) s q → bad c ≡ walked
     unfolding readBasic
-    no-version c e = behind-name (field-no false some-text (tagsShape 1) 0 (start l (2 ∷ a ∷ k ∷ [])) s q c e)
+    no-version c e = behind-name (field-no false some-text (tagsShape true 1) 0 (start l (2 ∷ a ∷ k ∷ [])) s q c e)
 
     module _ (b m u : ℕ) (f : ok (b, m) u ≡ on (readBasic (byPlace false) compactString) s q) where
-      behind-version : {z : Res State} → z ≡ on (walk false (tagsShape 1) 0 (start l (2 ∷ a ∷ k ∷ 2 ∷ b ∷ m ∷ []))) s u → z ≡ walked
+      behind-version : {z : Res State} → z ≡ on (walk false (tagsShape true 1) 0 (start l (2 ∷ a ∷ k ∷ 2 ∷ b ∷ m ∷ []))) s u → z ≡ walked
       unfolding readBasic cells span add store put
-      behind-version e = behind-name (field-took false some-text (tagsShape 1) 0 (start l (2 ∷ a ∷ k ∷ [])) s q (b, m) u _ f e)
+      behind-version e = behind-name (field-took false some-text (tagsShape true 1) 0 (start l (2 ∷ a ∷ k ∷ [])) s q (b, m) u _ f e)
 
-      module _ (l′ : List ℕ) (r : Walked) (h : Runs (λ e. walk (e .0) (tagsShape (e .1 .t)) (e .1 .o)) s u (inTables l 0) (inTablesIs l′ r)) where
+      module _ (l′ : List ℕ) (r : Walked) (h : Runs (λ e. walk (e .0) (tagsShape true (e .1 .t)) (e .1 .o)) s u (inTables l 0) (inTablesIs l′ r)) where
         abbrev row : Tab
         row = own (2 ∷ a ∷ k ∷ 2 ∷ b ∷ m ∷ [])
 

@@ -5,15 +5,16 @@ ghost use mathlib.Core.List.{[], _++_, _∷_};
 ghost use Rattle.layout.specs.Answers.{writeAlone, writeAnswer};
 ghost use Rattle.layout.specs.Messages.ApiVersions as Api;
 ghost use Rattle.layout.specs.Primitives.{plain};
+ghost use Rattle.layout.specs.Rows as Rows;
 ghost use Rattle.layout.specs.Tables.{basicOf, good, goodCells};
 ghost use Rattle.layout.specs.Utf8 as Utf8;
 ghost use Rattle.layout.specs.Write as Write;
 ghost use Rattle.rows.specs.Step.{Capped};
+ghost use Rattle.rows.specs.Tagged.{tagShape};
 ghost use Rattle.rows.specs.Writes.{bytesAt, countedBytes, refusalOf};
 ghost use Rattle.writers.specs.Answers.{replied};
-ghost use Rattle.tags_written.specs.Tags.{tagShape};
 ghost use Rattle.api_versions_request.specs.Answers.{ofRequest, ofText};
-ghost use Rattle.api_versions_request.specs.Shapes.{lentRows, requestShape, textField, textsShape};
+ghost use Rattle.api_versions_request.specs.Shapes.{requestShape, textField, textsShape};
 use crate::RequestBody;
 use crate::Text;
 use primitives::BAD_TABLES;
@@ -32,7 +33,7 @@ use writers::Written;
 
 // The bytes of a text: none where it is unset.
 fn bytes_of(lent: &[u8], t: Text) -> &[u8]
-    ensures { λ r. ⌜ now r ≡ basicOf (now (lent .entry)) textField (ofText t) ⌝ }
+    ensures { λ r. ⌜ now r ≡ basicOf (now (lent .entry)) (textField true) (ofText t) ⌝ }
 {
     match t {
         Text::Absent => part(lent, 0, 0),
@@ -43,7 +44,7 @@ fn bytes_of(lent: &[u8], t: Text) -> &[u8]
 // ---- 13 and 7
 
 fn is_ranged(size: usize, t: Text) -> bool
-    ensures { λ r. ⌜ r ≡ goodCells size textField (ofText t) ⌝ }
+    ensures { λ r. ⌜ r ≡ goodCells size (textField true) (ofText t) ⌝ }
 {
     match t {
         Text::Absent => true,
@@ -52,7 +53,7 @@ fn is_ranged(size: usize, t: Text) -> bool
 }
 
 fn is_good(size: usize, name: Text, version: Text, own: u64, tags: &[u64]) -> bool
-    ensures { λ r. ⌜ r ≡ good size 1 (requestShape false) (lentRows name version own (now (tags .entry))) ⌝ }
+    ensures { λ r. ⌜ r ≡ good size 1 (requestShape false) ((ofText name ++ (ofText version ++ (own ∷ []))) ∷ now (tags .entry) ∷ []) ⌝ }
 {
     if !is_ranged(size, name) {
         return false;
@@ -77,7 +78,7 @@ fn are_texts(flexible: bool, name: &[u8], version: &[u8]) -> bool
 
 // 13, 7, or 0 for neither.
 fn refusal(flexible: bool, lent: &[u8], name: Text, version: Text, own: u64, tags: &[u64]) -> u8
-    ensures { λ r. ⌜ r ≡ refusalOf (now (lent .entry)) 1 (requestShape false) (requestShape flexible) (lentRows name version own (now (tags .entry))) ⌝ }
+    ensures { λ r. ⌜ r ≡ refusalOf (now (lent .entry)) 1 (requestShape false) (requestShape flexible) ((ofText name ++ (ofText version ++ (own ∷ []))) ∷ now (tags .entry) ∷ []) ⌝ }
 {
     if !is_good(lent.len(), name, version, own, tags) {
         return BAD_TABLES;
@@ -91,7 +92,7 @@ fn refusal(flexible: bool, lent: &[u8], name: Text, version: Text, own: u64, tag
 // ---- the walk
 
 fn texts(out: &mut [u8], name: &[u8], version: &[u8]) -> usize
-    ensures { λ r. ⌜ Capped (Write.write textsShape (now (name .entry), (now (version .entry), tt))) (now (out .entry)) r (now (out .exit)) ⌝ }
+    ensures { λ r. ⌜ Capped (Write.write (textsShape Rows.end) (now (name .entry), (now (version .entry), tt))) (now (out .entry)) r (now (out .exit)) ⌝ }
 {
     let a = put::sized(out, Form::Compact, name);
     let p = put::behind(a, out.len());
@@ -107,7 +108,7 @@ fn body(
     version: &[u8],
     tags: &[u64],
 ) -> usize
-    ensures { λ r. ⌜ Capped (cond flexible (Write.write textsShape (now (name .entry), (now (version .entry), tt)) ++ countedBytes (now (lent .entry)) tagShape plain 3 (now (tags .entry))) []) (now (out .entry)) r (now (out .exit)) ⌝ }
+    ensures { λ r. ⌜ Capped (cond flexible (Write.write (textsShape Rows.end) (now (name .entry), (now (version .entry), tt)) ++ countedBytes (now (lent .entry)) tagShape plain 3 (now (tags .entry))) []) (now (out .entry)) r (now (out .exit)) ⌝ }
 {
     if !flexible {
         return 0;
@@ -129,7 +130,7 @@ fn stored(
     lent: &[u8],
     tags: &[u64],
 ) -> Written
-    ensures { λ r. ⌜ replied r (now (out .exit)) ≡ writeAlone 0 (cond flexible (Write.write textsShape (now (name .entry), (now (version .entry), tt)) ++ countedBytes (now (lent .entry)) tagShape plain 3 (now (tags .entry))) []) (now (out .entry)) ⌝ }
+    ensures { λ r. ⌜ replied r (now (out .exit)) ≡ writeAlone 0 (cond flexible (Write.write (textsShape Rows.end) (now (name .entry), (now (version .entry), tt)) ++ countedBytes (now (lent .entry)) tagShape plain 3 (now (tags .entry))) []) (now (out .entry)) ⌝ }
 {
     let all = body(&mut out[..0], flexible, lent, name, version, tags);
     if MOST < all {
@@ -152,7 +153,7 @@ fn written(
     own: u64,
     tags: &[u64],
 ) -> Written
-    ensures { λ r. ⌜ replied r (now (out .exit)) ≡ writeAlone (refusalOf (now (lent .entry)) 1 (requestShape false) (requestShape flexible) (lentRows name version own (now (tags .entry)))) (bytesAt (now (lent .entry)) (requestShape flexible) 0 (lentRows name version own (now (tags .entry)))) (now (out .entry)) ⌝ }
+    ensures { λ r. ⌜ replied r (now (out .exit)) ≡ writeAlone (refusalOf (now (lent .entry)) 1 (requestShape false) (requestShape flexible) ((ofText name ++ (ofText version ++ (own ∷ []))) ∷ now (tags .entry) ∷ [])) (bytesAt (now (lent .entry)) (requestShape flexible) 0 ((ofText name ++ (ofText version ++ (own ∷ []))) ∷ now (tags .entry) ∷ [])) (now (out .entry)) ⌝ }
 {
     let e = refusal(flexible, lent, name, version, own, tags);
     if e != 0 {

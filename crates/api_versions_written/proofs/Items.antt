@@ -10,12 +10,13 @@ use lib.Seq.{getD-drop, getD-take}
 use borrow.Rule.Slice.PartMut.{midOf, putMid}
 use Rattle.layout.specs.Primitives.{bytes, holds, plain, w16}
 use Rattle.layout.specs.Rows.{Value}
-use Rattle.layout.specs.Tables.{Tables, all, basicOf, chunks, count, pop, rowWidth, rowsOf, sum, times, valueOf, width}
+use Rattle.layout.specs.Tables.{Tables, basicOf, chunks, count, pop, rowWidth, rowsOf, sum, times, valueOf, width}
 use Rattle.layout.specs.Write.{basicFault, fault, firstOf, or, unless, write, writeBasic}
 use Rattle.rows.specs.Step.{Capped, cap}
+use Rattle.rows.specs.Tagged.{tagShape, tagsShape}
 use Rattle.rows.specs.Writes.{bytesAt, countedBytes, faultAt, itemsBytes, itemsFault, rowBytes, rowFault, takes}
 use Rattle.rows.proofs.Capped.{capped, capped-as, capped-behind}
-use Rattle.rows.proofs.Faults.{or-none, or-unless}
+use Rattle.rows.proofs.Faults.{or-none, or-three}
 use Rattle.rows.proofs.Nested.{Nest, one, row-bytes}
 use Rattle.rows.proofs.Taking.{Taking, sum-cells, taking-end, taking-enough, taking-more, taking-start}
 use Rattle.rows.proofs.Writes.{flat-bytes, flat-fault, flat-value, joined-fault}
@@ -24,11 +25,9 @@ use Rattle.put.proofs.Stored.{put-step}
 use Rattle.ranges.specs.Asked.{told}
 use Rattle.ranges.proofs.Cells.{Cells, cells-drop}
 use Rattle.ranges.proofs.Counts.{count-most}
-use Rattle.tags_written.specs.Tags.{tagShape, tagsShape}
 use Rattle.tags_written.proofs.Tags.{tag-wide, tags-clean}
 use Rattle.api_versions.specs.Shapes.{itemShape}
 use Rattle.api_versions_items.specs.Shapes.{keyFront}
-use Rattle.api_versions_written.specs.Judged.{rowHolds}
 
 key-wide : rowWidth keyFront ≡ 3
 unfolding rowWidth width
@@ -70,15 +69,19 @@ module _ (lent : List ℕ) where
   key-bytes (a ∷ b ∷ []) = three a b 0
   key-bytes (a ∷ b ∷ c ∷ r) = three a b c
 
-  unless-three : (a b c : Bool) → or (unless a 11) (or (unless b 11) (or (unless c 11) 0)) ≡ unless (a && (b && c)) 11
-  unless-three a b c = ap (λ (y : ℕ). or (unless a 11) (or (unless b 11) y)) (or-none (unless c 11)) ∙ ap (or (unless a 11)) (or-unless b c 10) ∙ or-unless a (b && c) 10
+  pub key-fault : (r : List ℕ) → rowFault lent keyFront r ≡ unless (holds w16 (getD r 0 0) && (holds w16 (getD r 1 0) && holds w16 (getD r 2 0))) 11
+  unfolding rowFault faultAt fault basicFault valueOf pop width basicOf
+  key-fault [] = or-three (holds w16 0) (holds w16 0) (holds w16 0) 10
+  key-fault (a ∷ []) = or-three (holds w16 a) (holds w16 0) (holds w16 0) 10
+  key-fault (a ∷ b ∷ []) = or-three (holds w16 a) (holds w16 b) (holds w16 0) 10
+  key-fault (a ∷ b ∷ c ∷ r) = or-three (holds w16 a) (holds w16 b) (holds w16 c) 10
 
-  key-fault : (r : List ℕ) → rowFault lent keyFront r ≡ unless (rowHolds (take 4 r)) 11
-  unfolding rowFault faultAt fault basicFault valueOf pop width basicOf rowHolds
-  key-fault [] = unless-three (holds w16 0) (holds w16 0) (holds w16 0)
-  key-fault (a ∷ []) = unless-three (holds w16 a) (holds w16 0) (holds w16 0)
-  key-fault (a ∷ b ∷ []) = unless-three (holds w16 a) (holds w16 b) (holds w16 0)
-  key-fault (a ∷ b ∷ c ∷ r) = unless-three (holds w16 a) (holds w16 b) (holds w16 c)
+  key-first : (r : List ℕ) → rowFault lent keyFront r ≡ rowFault [] keyFront (take 4 r)
+  unfolding rowFault faultAt fault basicFault valueOf pop width basicOf
+  key-first [] = refl
+  key-first (a ∷ []) = refl
+  key-first (a ∷ b ∷ []) = refl
+  key-first (a ∷ b ∷ c ∷ r) = refl
 
   -- ---- one item
 
@@ -107,23 +110,21 @@ module _ (lent : List ℕ) where
   item-bytes false items tags h = flat-bytes lent (itemShape false) tt 1 ([] ∷ items ∷ tags ∷ []) (lit< tt) ∙ plain-bytes items ∙ sym (append-nil _)
 
   module _ (l : length lent < 2 ^ 64) where
-    item-fault : (f : Bool) (items tags : List ℕ) → Cells items → Cells tags → faultAt lent (itemShape f) 1 ([] ∷ items ∷ tags ∷ []) ≡ unless (rowHolds (take 4 items)) 11
+    item-fault : (f : Bool) (items tags : List ℕ) → Cells items → Cells tags → faultAt lent (itemShape f) 1 ([] ∷ items ∷ tags ∷ []) ≡ rowFault [] keyFront (take 4 items)
     item-fault true items tags h g =
-        joined-fault lent (tagsShape 2) 1 keyFront ([] ∷ items ∷ tags ∷ [])
+        joined-fault lent (tagsShape true 2) 1 keyFront ([] ∷ items ∷ tags ∷ [])
         ∙ ap₂ or (flat-fault lent keyFront tt 1 ([] ∷ items ∷ tags ∷ []) (lit< tt))
-        (ap (faultAt lent (tagsShape 2) 1) (ap (λ (x : Value (List ℕ) keyFront × Tables). x .1) (flat-value lent keyFront tt 1 ([] ∷ items ∷ tags ∷ []) (lit< tt)) ∙ ap (λ (j : ℕ). [] ∷ drop j items ∷ tags ∷ []) key-wide)
+        (ap (faultAt lent (tagsShape true 2) 1) (ap (λ (x : Value (List ℕ) keyFront × Tables). x .1) (flat-value lent keyFront tt 1 ([] ∷ items ∷ tags ∷ []) (lit< tt)) ∙ ap (λ (j : ℕ). [] ∷ drop j items ∷ tags ∷ []) key-wide)
         ∙ tags-clean lent 1 2 ([] ∷ drop 3 items ∷ tags ∷ []) (λ u. omega arith) (lit< tt) (omega (arith, count-most (getD (drop 3 items) 0 0), getD-drop 3 items 0 0, h 3)) g l)
         ∙ or-none _
-        ∙ key-fault items
-    item-fault false items tags h g = flat-fault lent (itemShape false) tt 1 ([] ∷ items ∷ tags ∷ []) (lit< tt) ∙ plain-fault items ∙ key-fault items
+        ∙ key-first items
+    item-fault false items tags h g = flat-fault lent (itemShape false) tt 1 ([] ∷ items ∷ tags ∷ []) (lit< tt) ∙ plain-fault items ∙ key-first items
 
-    pub items-fault : (f : Bool) (n : ℕ) (own items tags : List ℕ) → Cells items → Cells tags → itemsFault lent (itemShape f) n 1 (own ∷ items ∷ tags ∷ []) ≡ unless (all rowHolds (chunks n 4 items)) 11
-    unfolding itemsFault faultAt times chunks all firstOf unless
+    pub items-fault : (f : Bool) (n : ℕ) (own items tags : List ℕ) → Cells items → Cells tags → itemsFault lent (itemShape f) n 1 (own ∷ items ∷ tags ∷ []) ≡ firstOf (rowFault [] keyFront) (chunks n 4 items)
+    unfolding itemsFault faultAt times chunks firstOf
     items-fault f zero own items tags h g = refl
     items-fault f (suc n) own items tags h g =
-        rw (item-value f own items tags) (
-        ap₂ or (item-fault f items tags h g) (items-fault f n own (drop 4 items) (drop (itemCells f items) tags) (cells-drop 4 items h) (cells-drop (itemCells f items) tags g))
-        ∙ or-unless (rowHolds (take 4 items)) (all rowHolds (chunks n 4 (drop 4 items))) 10)
+        rw (item-value f own items tags) (ap₂ or (item-fault f items tags h g) (items-fault f n own (drop 4 items) (drop (itemCells f items) tags) (cells-drop 4 items h) (cells-drop (itemCells f items) tags g)))
 
   -- ---- the loop
 

@@ -9,25 +9,45 @@ use lib.Dec.{lit<}
 use lib.ListN.{drop, getD, length, length-append, take}
 use lib.Seq.{getD-take}
 use borrow.Rule.Slice.PartMut.{midOf, putMid}
-use Rattle.layout.specs.Primitives.{bytes, lengthBytes, plain, shortest, unsignedBytes}
-use Rattle.layout.specs.Tables.{chunks, count, rowsOf, sum, times}
-use Rattle.layout.specs.Write.{each}
+use Rattle.layout.specs.Primitives.{bytes, lengthBytes, plain, shortest, sizedBytes, unsignedBytes}
+use Rattle.layout.specs.Tables.{chunks, count, itemsOf, pop, rowsOf, sum, times, valueOf, width}
+use Rattle.layout.specs.Write.{each, write}
 use Rattle.layout.proofs.Back.{length-bytes}
 use Rattle.rows.specs.Step.{Capped, cap}
+use Rattle.rows.specs.Tagged.{tagShape, tagsShape}
 use Rattle.rows.specs.Writes.{bytesAt, countedBytes, itemsBytes, rowBytes, rowsBytes}
 use Rattle.rows.proofs.Capped.{capped, capped-as, capped-behind}
 use Rattle.rows.proofs.Chunks.{row-cell}
+use Rattle.rows.proofs.Writes.{joined-bytes}
 use Rattle.put.specs.Put.{Put}
 use Rattle.put.proofs.Even.{rows-wide}
 use Rattle.put.proofs.Stored.{put-step}
 use Rattle.ranges.specs.Asked.{told}
-use Rattle.tags_written.specs.Tags.{tagShape}
 use Rattle.api_versions.specs.Shapes.{itemShape}
 use Rattle.api_versions_items.specs.Shapes.{keyFront}
-use Rattle.api_versions_written.specs.Shapes.{untaggedBytes}
 use Rattle.api_versions_written.proofs.Items.{cells-most, item-bytes, item-value, itemCells, key-bytes}
 
--- ---- an item's bytes
+-- no count is the count of none
+count-none : (f : Bool) (r : List ℕ) → bytesAt [] (tagsShape f 2) 0 (valueOf [] keyFront 0 (take 3 r ∷ []) .1) ≡ cond f (0 ∷ []) []
+unfolding bytesAt write sizedBytes valueOf pop width itemsOf count times each lengthBytes unsignedBytes shortest bytes
+count-none true [] = refl
+count-none true (a ∷ []) = refl
+count-none true (a ∷ b ∷ []) = refl
+count-none true (a ∷ b ∷ c ∷ r) = refl
+count-none false r = refl
+
+-- ---- an item's bytes, whatever its count says
+
+abbrev pub untaggedBytes : Bool → List ℕ → List ℕ
+untaggedBytes f r = rowBytes [] (itemShape f) (take 3 r)
+
+untagged-bytes : (f : Bool) (r : List ℕ) → untaggedBytes f r ≡ rowBytes [] keyFront r ++ cond f (0 ∷ []) []
+unfolding rowBytes
+untagged-bytes f r =
+    joined-bytes [] (tagsShape f 2) 0 keyFront (take 3 r ∷ [])
+    ∙ ap₂ (λ (x y : List ℕ). x ++ y)
+    (key-bytes [] (take 3 r) ∙ (λ t. bytes 2 (getD-take 3 r 0 0 (lit< tt) t) ++ (bytes 2 (getD-take 3 r 1 0 (lit< tt) t) ++ bytes 2 (getD-take 3 r 2 0 (lit< tt) t))) ∙ sym (key-bytes [] r))
+    (count-none f r)
 
 pub none-there : (f : Bool) → f ≡ true → {d d′ : List ℕ} {r : ℕ} → Put (bytes 1 0) d r d′ → Capped (cond f (0 ∷ []) []) d r d′
 unfolding bytes
@@ -36,15 +56,14 @@ none-there f h p = rw h (capped (put-step p))
 -- a row's cells stand in the table from four times its number on
 pub untagged-put : (f : Bool) (table : List ℕ) (i : ℕ) → i < length table / 4 → {d d₁ e : List ℕ} {n m : ℕ} (at : ℕ) → at ≡ min n (length d₁) → (r : ℕ) → cap r ≡ cap (n + m) → Capped (rowBytes [] keyFront (getD table (i * 4) 0 ∷ getD table (i * 4 + 1) 0 ∷ getD table (i * 4 + 2) 0 ∷ [])) d n d₁ →
     Capped (cond f (0 ∷ []) []) (midOf at (length d₁ - at) d₁) m e → Capped (untaggedBytes f (getD (rowsOf 4 table) i [])) d r (putMid at (length d₁ - at) d₁ e)
-unfolding untaggedBytes
 untagged-put f table i l at h r k p q =
-    capped-behind
+    capped-as (sym (untagged-bytes f (getD (rowsOf 4 table) i []))) (capped-behind
     (capped-as
     (key-bytes [] (getD table (i * 4) 0 ∷ getD table (i * 4 + 1) 0 ∷ getD table (i * 4 + 2) 0 ∷ [])
     ∙ sym (λ t. bytes 2 ((row-cell 4 table i l 0 (lit< tt) ∙ ap (λ (j : ℕ). getD table j 0) (add-zero (i * 4))) t) ++ (bytes 2 (row-cell 4 table i l 1 (lit< tt) t) ++ bytes 2 (row-cell 4 table i l 2 (lit< tt) t)))
     ∙ sym (key-bytes [] (getD (rowsOf 4 table) i [])))
     p)
-    at h q r k
+    at h q r k)
 
 -- ---- all have the same width
 
@@ -59,8 +78,7 @@ key-wide r =
     ∙ omega (arith, length-append (bytes 2 (getD r 1 0)) (bytes 2 (getD r 2 0)), length-bytes 2 (getD r 0 0), length-bytes 2 (getD r 1 0), length-bytes 2 (getD r 2 0))
 
 untagged-wide : (f : Bool) (r : List ℕ) → length (untaggedBytes f r) ≡ cond f 7 6
-unfolding untaggedBytes
-untagged-wide f r = length-append (rowBytes [] keyFront r) (cond f (0 ∷ []) []) ∙ ap (λ (n : ℕ). n + length {A = ℕ} (cond f (0 ∷ []) [])) (key-wide r) ∙ none-wide f
+untagged-wide f r = ap length (untagged-bytes f r) ∙ length-append (rowBytes [] keyFront r) (cond f (0 ∷ []) []) ∙ ap (λ (n : ℕ). n + length {A = ℕ} (cond f (0 ∷ []) [])) (key-wide r) ∙ none-wide f
 
 -- k is told to be the width
 module _ (f : Bool) {k : ℕ} (e : k ≡ cond f 7 6) where
@@ -101,12 +119,12 @@ told-first items = ap count (getD-take 4 items 3 0 (lit< tt))
 
 module _ (f : Bool) (lent tags : List ℕ) where
   first-bytes : (items : List ℕ) → itemCells f items ≡ 0 → bytesAt lent (itemShape f) 1 ([] ∷ items ∷ tags ∷ []) ≡ untaggedBytes f (take 4 items)
-  unfolding untaggedBytes
   first-bytes items h =
       item-bytes lent f items tags (omega (arith, h))
       ∙ ap₂ (λ (x y : List ℕ). x ++ y)
       (key-bytes lent items ∙ sym (λ t. bytes 2 (getD-take 4 items 0 0 (lit< tt) t) ++ (bytes 2 (getD-take 4 items 1 0 (lit< tt) t) ++ bytes 2 (getD-take 4 items 2 0 (lit< tt) t))) ∙ sym (key-bytes [] (take 4 items)))
       (ap (λ (k : ℕ). cond f (countedBytes lent tagShape plain 3 (take k tags)) []) h ∙ none-bytes f lent)
+      ∙ sym (untagged-bytes f (take 4 items))
 
   each-untagged : (n : ℕ) (items : List ℕ) → sum (told 3) (chunks n 4 items) ≡ 0 → itemsBytes lent (itemShape f) n 1 ([] ∷ items ∷ tags ∷ []) ≡ each (untaggedBytes f) (chunks n 4 items)
   unfolding itemsBytes bytesAt each times chunks sum

@@ -3,12 +3,13 @@ ghost use mathlib.Core.Bool.{cond, false, true};
 ghost use mathlib.Core.Path.{_≡_};
 ghost use mathlib.Core.List.{[], _∷_};
 ghost use lib.ListN.{getD, length};
+ghost use lib.Dec.{eqb};
 ghost use Prim.Native.Nat.{_/_, _<_};
 ghost use Rattle.layout.specs.Primitives.{holds, w32};
-ghost use Rattle.layout.specs.Tables.{all, good, rowsOf};
-ghost use Rattle.layout.specs.Write.{unless};
+ghost use Rattle.layout.specs.Tables.{good, rowsOf};
+ghost use Rattle.rows.specs.Writes.{faultAt, rowFault, rowsFault};
 ghost use Rattle.api_versions.specs.Shapes.{responseShape};
-ghost use Rattle.api_versions_written.specs.Judged.{isCarried, rowHolds};
+ghost use Rattle.api_versions_items.specs.Shapes.{keyFront};
 use primitives::BAD_TABLES;
 use primitives::TOO_WIDE;
 use ranges::Row;
@@ -39,7 +40,7 @@ fn is_good(size: usize, count: u64, own: u64, items: &[u64], tags: &[u64]) -> bo
 // ---- 11
 
 fn row_fits(key: u64, low: u64, high: u64) -> bool
-    ensures { λ r. ⌜ r ≡ rowHolds (key ∷ low ∷ high ∷ []) ⌝ }
+    ensures { λ r. ⌜ r ≡ eqb (rowFault [] keyFront (key ∷ low ∷ high ∷ [])) 0 ⌝ }
 {
     if !fits(key, 32768) {
         return false;
@@ -53,14 +54,14 @@ fn row_fits(key: u64, low: u64, high: u64) -> bool
 // The same of row i.
 fn fits_at(items: &[u64], i: usize) -> bool
     requires { ⌜ i < length (now items) / 4 ⌝ }
-    ensures { λ r. ⌜ r ≡ rowHolds (getD (rowsOf 4 (now (items .entry))) i []) ⌝ }
+    ensures { λ r. ⌜ r ≡ eqb (rowFault [] keyFront (getD (rowsOf 4 (now (items .entry))) i [])) 0 ⌝ }
 {
     row_fits(items[i * 4], items[i * 4 + 1], items[i * 4 + 2])
 }
 
 // Two rows a turn, the numbers of both loaded before one is judged, so that one test does for all six.
 fn all_fit(items: &[u64]) -> bool
-    ensures { λ r. ⌜ r ≡ all rowHolds (rowsOf 4 (now (items .entry))) ⌝ }
+    ensures { λ r. ⌜ r ≡ eqb (rowsFault [] keyFront 4 (now (items .entry))) 0 ⌝ }
 {
     let n = items.len() / 4;
     let mut turn: usize = 0;
@@ -90,8 +91,9 @@ fn throttle_fits(throttle: bool, n: u64) -> bool
     true
 }
 
+// Tags have no fault: the layout without them says all.
 fn is_carried(throttle: bool, error: u64, n: u64, items: &[u64]) -> bool
-    ensures { λ r. ⌜ r ≡ isCarried throttle error n (now (items .entry)) ⌝ }
+    ensures { λ r. ⌜ r ≡ eqb (faultAt [] (responseShape throttle false) 0 ((error ∷ length (now (items .entry)) / 4 ∷ 2 ∷ n ∷ 0 ∷ []) ∷ now (items .entry) ∷ [] ∷ [])) 0 ⌝ }
 {
     if !fits(error, 32768) {
         return false;
@@ -113,7 +115,7 @@ pub fn refusal(
     n: u64,
     own: u64,
 ) -> u8
-    ensures { λ r. ⌜ r ≡ cond (good size 2 (responseShape false false) ((0 ∷ count ∷ 0 ∷ 0 ∷ own ∷ []) ∷ now (items .entry) ∷ now (tags .entry) ∷ [])) (unless (isCarried throttle error n (now (items .entry))) 11) 13 ⌝ }
+    ensures { λ r. ⌜ r ≡ cond (good size 2 (responseShape false false) ((0 ∷ count ∷ 0 ∷ 0 ∷ own ∷ []) ∷ now (items .entry) ∷ now (tags .entry) ∷ [])) (faultAt [] (responseShape throttle false) 0 ((error ∷ length (now (items .entry)) / 4 ∷ 2 ∷ n ∷ 0 ∷ []) ∷ now (items .entry) ∷ [] ∷ [])) 13 ⌝ }
 {
     if !is_good(size, count, own, items, tags) {
         return BAD_TABLES;

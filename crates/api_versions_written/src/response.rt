@@ -3,23 +3,23 @@
 ghost use mathlib.Core.Bool.{cond, false};
 ghost use mathlib.Core.Path.{_≡_};
 ghost use mathlib.Core.List.{[], _++_, _∷_};
-ghost use lib.ListN.{getD, length};
+ghost use lib.ListN.{getD, length, take};
 ghost use Prim.Native.Nat.{_+_, _*_, _/_, _<_, _^_, _≤_};
 ghost use Rattle.layout.specs.Answers.{writeAlone, writeAnswer};
 ghost use Rattle.layout.specs.Messages.ApiVersions as Api;
-ghost use Rattle.layout.specs.Primitives.{bytes, plain};
+ghost use Rattle.layout.specs.Primitives.{bytes, compact, fixed, never, plain, w32};
 ghost use Rattle.layout.specs.Rows as Rows;
 ghost use Rattle.layout.specs.Tables.{count, rowsOf, sum};
 ghost use Rattle.layout.specs.Write.{each};
 ghost use Rattle.rows.specs.Step.{Capped};
+ghost use Rattle.rows.specs.Tagged.{tagShape, tagsShape};
 ghost use Rattle.rows.specs.Writes.{bytesAt, countedBytes, itemsBytes, refusalOf, rowBytes};
+ghost use Rattle.put.specs.Put.{sizeOf};
 ghost use Rattle.writers.specs.Answers.{replied};
 ghost use Rattle.ranges.specs.Asked.{told};
-ghost use Rattle.tags_written.specs.Tags.{tagShape};
 ghost use Rattle.api_versions.specs.Answers.{ofResponse};
 ghost use Rattle.api_versions.specs.Shapes.{itemShape, responseShape, throttleShape};
 ghost use Rattle.api_versions_items.specs.Shapes.{keyFront};
-ghost use Rattle.api_versions_written.specs.Shapes.{endShape, formOf, itemsShape, untaggedBytes};
 use crate::judge::refusal;
 use api_versions::ResponseBody;
 use primitives::MOST;
@@ -117,9 +117,10 @@ fn no_tags(out: &mut [u8], flexible: bool) -> usize
     0
 }
 
+// The first three cells of a row: its count is not looked at.
 fn untagged_item(out: &mut [u8], flexible: bool, items: &[u64], i: usize) -> usize
     requires { ⌜ i < length (now items) / 4 ⌝ }
-    ensures { λ r. ⌜ Capped (untaggedBytes flexible (getD (rowsOf 4 (now (items .entry))) i [])) (now (out .entry)) r (now (out .exit)) ⌝ }
+    ensures { λ r. ⌜ Capped (rowBytes [] (itemShape flexible) (take 3 (getD (rowsOf 4 (now (items .entry))) i []))) (now (out .entry)) r (now (out .exit)) ⌝ }
 {
     let a = key(out, items[i * 4], items[i * 4 + 1], items[i * 4 + 2]);
     let p = put::behind(a, out.len());
@@ -130,7 +131,7 @@ fn untagged_item(out: &mut [u8], flexible: bool, items: &[u64], i: usize) -> usi
 // Item behind item, in an output of just their size: the loop's own test tells the room of each.
 fn untagged_rows(out: &mut [u8], flexible: bool, width: usize, items: &[u64]) -> usize
     requires { ⌜ (width ≡ cond flexible 7 6) × (length (now out) ≡ length (now items) / 4 * width) ⌝ }
-    ensures { λ r. ⌜ Capped (each (untaggedBytes flexible) (rowsOf 4 (now (items .entry)))) (now (out .entry)) r (now (out .exit)) ⌝ }
+    ensures { λ r. ⌜ Capped (each (λ x. rowBytes [] (itemShape flexible) (take 3 x)) (rowsOf 4 (now (items .entry)))) (now (out .entry)) r (now (out .exit)) ⌝ }
 {
     let mut p: usize = 0;
     let mut i: usize = 0;
@@ -145,7 +146,7 @@ fn untagged_rows(out: &mut [u8], flexible: bool, width: usize, items: &[u64]) ->
 // Rows of one width are measured by their number.
 fn items_of_width(out: &mut [u8], flexible: bool, width: usize, items: &[u64]) -> usize
     requires { ⌜ width ≡ cond flexible 7 6 ⌝ }
-    ensures { λ r. ⌜ Capped (each (untaggedBytes flexible) (rowsOf 4 (now (items .entry)))) (now (out .entry)) r (now (out .exit)) ⌝ }
+    ensures { λ r. ⌜ Capped (each (λ x. rowBytes [] (itemShape flexible) (take 3 x)) (rowsOf 4 (now (items .entry)))) (now (out .entry)) r (now (out .exit)) ⌝ }
 {
     let all = items.len() / 4 * width;
     if all <= out.len() {
@@ -156,7 +157,7 @@ fn items_of_width(out: &mut [u8], flexible: bool, width: usize, items: &[u64]) -
 
 // The width is told as a number, so that the loop is compiled for each.
 fn untagged_items(out: &mut [u8], flexible: bool, items: &[u64]) -> usize
-    ensures { λ r. ⌜ Capped (each (untaggedBytes flexible) (rowsOf 4 (now (items .entry)))) (now (out .entry)) r (now (out .exit)) ⌝ }
+    ensures { λ r. ⌜ Capped (each (λ x. rowBytes [] (itemShape flexible) (take 3 x)) (rowsOf 4 (now (items .entry)))) (now (out .entry)) r (now (out .exit)) ⌝ }
 {
     if flexible {
         return items_of_width(out, true, 7, items);
@@ -177,7 +178,7 @@ fn items_part(out: &mut [u8], flexible: bool, lent: &[u8], items: &[u64], tags: 
 }
 
 fn form_of(flexible: bool) -> Form
-    ensures { λ r. ⌜ r ≡ formOf flexible ⌝ }
+    ensures { λ r. ⌜ sizeOf r ≡ cond flexible (compact never) (fixed w32 never) ⌝ }
 {
     if flexible {
         return Form::Compact;
@@ -188,7 +189,7 @@ fn form_of(flexible: bool) -> Form
 // The items behind their number.
 fn array(out: &mut [u8], flexible: bool, lent: &[u8], items: &[u64], tags: &[u64]) -> usize
     requires { ⌜ sum (told 3) (rowsOf 4 (now items)) * 3 ≤ length (now tags) ⌝ }
-    ensures { λ r. ⌜ Capped (bytesAt (now (lent .entry)) (itemsShape flexible Rows.end) 0 ((length (now (items .entry)) / 4 ∷ []) ∷ now (items .entry) ∷ now (tags .entry) ∷ [])) (now (out .entry)) r (now (out .exit)) ⌝ }
+    ensures { λ r. ⌜ Capped (bytesAt (now (lent .entry)) (Rows.array (Rows.items flexible) 1 (itemShape flexible) Rows.end) 0 ((length (now (items .entry)) / 4 ∷ []) ∷ now (items .entry) ∷ now (tags .entry) ∷ [])) (now (out .entry)) r (now (out .exit)) ⌝ }
 {
     let a = put::length(out, form_of(flexible), (items.len() / 4) as u64);
     let p = put::behind(a, out.len());
@@ -207,7 +208,7 @@ fn throttle_time(out: &mut [u8], throttle: bool, n: u64) -> usize
 
 // What stands behind the items.
 fn end(out: &mut [u8], throttle: bool, flexible: bool, lent: &[u8], n: u64, table: &[u64]) -> usize
-    ensures { λ r. ⌜ Capped (bytesAt (now (lent .entry)) (endShape throttle flexible) 0 ((2 ∷ n ∷ length (now (table .entry)) / 3 ∷ []) ∷ [] ∷ now (table .entry) ∷ [])) (now (out .entry)) r (now (out .exit)) ⌝ }
+    ensures { λ r. ⌜ Capped (bytesAt (now (lent .entry)) (throttleShape throttle (tagsShape flexible 2)) 0 ((2 ∷ n ∷ length (now (table .entry)) / 3 ∷ []) ∷ [] ∷ now (table .entry) ∷ [])) (now (out .entry)) r (now (out .exit)) ⌝ }
 {
     let a = throttle_time(out, throttle, n);
     let p = put::behind(a, out.len());
@@ -227,7 +228,7 @@ fn rest(
     tags: &[u64],
 ) -> usize
     requires { ⌜ count own + sum (told 3) (rowsOf 4 (now items)) ≡ length (now tags) / 3 ⌝ }
-    ensures { λ r. ⌜ Capped (bytesAt (now (lent .entry)) (itemsShape flexible (endShape throttle flexible)) 0 ((length (now (items .entry)) / 4 ∷ 2 ∷ n ∷ own ∷ []) ∷ now (items .entry) ∷ now (tags .entry) ∷ [])) (now (out .entry)) r (now (out .exit)) ⌝ }
+    ensures { λ r. ⌜ Capped (bytesAt (now (lent .entry)) (Rows.array (Rows.items flexible) 1 (itemShape flexible) (throttleShape throttle (tagsShape flexible 2))) 0 ((length (now (items .entry)) / 4 ∷ 2 ∷ n ∷ own ∷ []) ∷ now (items .entry) ∷ now (tags .entry) ∷ [])) (now (out .entry)) r (now (out .exit)) ⌝ }
 {
     let from = (tags.len() / 3 - rows_told(own) as usize) * 3;
     let a = array(out, flexible, lent, items, tags);

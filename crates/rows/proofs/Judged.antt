@@ -1,5 +1,5 @@
 -- All of a list judged one by one, as a loop does it that stops at the first that is not good.
-use mathlib.Core.Bool.{Bool, _&&_, false, true}
+use mathlib.Core.Bool.{Bool, _&&_, cond, false, true}
 use mathlib.Core.List.{List, [], _∷_}
 use mathlib.Core.Path.{_∙_, _≡_, ap, ap₂, refl, sym}
 use Prim.Native.Nat.{_*_, _+_, _/_, _<_, _≤_, suc, ℕ}
@@ -84,3 +84,19 @@ module _ {p : List ℕ → Bool} {w : ℕ} {table : List ℕ} {t : ℕ} (g : Jud
       last : (b : Bool) → b ≡ p (getD (rowsOf w table) (t * 2) []) → b ≡ all p (rowsOf w table)
       last true f = judged-end p w table (t * 2 + 1) (judged-more p w table (t * 2) g h true f refl) (omega arith)
       last false f = judged-stop p w table (t * 2) g h false f refl
+
+-- ---- two tests in turn, and a test of what a version may lack
+
+module _ (a x y : Bool) (e : a ≡ x) where
+  pub and-first : a ≡ false → false ≡ (x && y)
+  and-first h = sym (ap (λ (t : Bool). t && y) (sym e ∙ h))
+
+  pub and-second : a ≡ true → (r : Bool) → r ≡ y → r ≡ (x && y)
+  and-second h r k = k ∙ sym (ap (λ (t : Bool). t && y) (sym e ∙ h))
+
+module _ (b x : Bool) where
+  pub if-there : b ≡ true → (r : Bool) → r ≡ x → r ≡ cond b x true
+  if-there h r e = e ∙ sym (rw h)
+
+  pub if-lacking : b ≡ false → true ≡ cond b x true
+  if-lacking h = sym (rw h)

@@ -6,3 +6,5 @@ pub mod Walk
 pub mod Meter
 -- what a writer of a part of a body promises
 pub mod Writes
+-- the layout of tagged fields
+pub mod Tagged

@@ -15,12 +15,13 @@ use Rattle.layout.proofs.Proper.{avoids, eats, proper, sound, widthAt}
 use Rattle.primitives.specs.Answers.{noRoom, ofRefusal}
 use Rattle.primitives.specs.declared.Refusal as Code
 use Rattle.rows.specs.Store.{State, own, put, store, tab}
+use Rattle.rows.specs.Tagged.{tagsShape}
 use Rattle.rows.specs.Walk.{Runs, on, walk}
 use Rattle.rows.proofs.Bound.{lean, slim, taken}
 use Rattle.rows.proofs.Close.{slices}
 use Rattle.rows.proofs.OneTable.{alone, one-needs, one-no, one-took}
 use Rattle.rows.proofs.Reply.{answers-long}
-use Rattle.tags.specs.Answers.{inTables, inTablesIs, tagsShape}
+use Rattle.tags.specs.Answers.{inTables, inTablesIs}
 use Rattle.tags.specs.declared.Walked.{Walked}
 
 -- what the laws of all messages ask of this one, computed
@@ -36,7 +37,7 @@ tag-width : widths tagsAlone ≡ 3 ∷ []
 unfolding widths from kindOf kindIn arrays rowWidth width shape at stands standing tagRows
 tag-width = refl
 
-tags-shape : tagsShape 1 ≡ shape tagsAlone 0
+tags-shape : tagsShape true 1 ≡ shape tagsAlone 0
 unfolding shape at stands standing tagRows
 tags-shape = refl
 
@@ -45,7 +46,7 @@ unfolding prefixRead
 reply-long s l c e h = answers-long tagsAlone false 0 s (l ∷ []) c e (omega arith) h
 
 -- what a walk comes to, with the own row in front of the table
-module _ (s t t′ : List ℕ) (r : Walked) (h : Runs (λ e. walk (e .0) (tagsShape (e .1 .t)) (e .1 .o)) s 0 (inTables t 0) (inTablesIs t′ r)) where
+module _ (s t t′ : List ℕ) (r : Walked) (h : Runs (λ e. walk (e .0) (tagsShape true (e .1 .t)) (e .1 .o)) s 0 (inTables t 0) (inTablesIs t′ r)) where
   run-is : inTablesIs t′ r (false, alone, own []) ≡ on (walk false (shape tagsAlone 0) 0 (own [] ∷ tab t 0 ∷ [])) s 0
   run-is = h .law (false, alone, own []) ∙ ap (λ (y : Shape). on (walk false y 0 (own [] ∷ tab t 0 ∷ [])) s 0) tags-shape
 
@@ -56,7 +57,7 @@ module _ (s t t′ : List ℕ) (r : Walked) (h : Runs (λ e. walk (e .0) (tagsSh
   unfolding store put
   run-took n q k e = ap (λ y. inTablesIs t′ y (false, alone, own [])) (sym e) ∙ run-is
 
-module _ (s l : List ℕ) (size : length s ≤ 1048576) (t₀ t₁ : List ℕ) (r : Walked) (first : Runs (λ e. walk (e .0) (tagsShape (e .1 .t)) (e .1 .o)) s 0 (inTables t₀ 0) (inTablesIs t₁ r)) (empty : length t₁ ≡ 0) where
+module _ (s l : List ℕ) (size : length s ≤ 1048576) (t₀ t₁ : List ℕ) (r : Walked) (first : Runs (λ e. walk (e .0) (tagsShape true (e .1 .t)) (e .1 .o)) s 0 (inTables t₀ 0) (inTablesIs t₁ r)) (empty : length t₁ ≡ 0) where
   pub reply-no : (c : Code.Refusal) → r ≡ Walked.Refused c → (refused (ofRefusal c), (t₁ ++ l) ∷ []) ≡ prefixRead tagsAlone (pos 0) (l ∷ []) s
   reply-no c e = one-no tagsAlone is-proper is-slim refl 3 tag-width 0 (omega arith) s l size t₀ t₁ empty (ofRefusal c) (run-no s t₀ t₁ r first c e)
 
@@ -64,7 +65,7 @@ module _ (s l : List ℕ) (size : length s ≤ 1048576) (t₀ t₁ : List ℕ) (
     pub reply-needs : length (t₁ ++ l) / 3 < k / 3 → (c : Refusal) → c ≡ noRoom (k / 3) → (refused c, (t₁ ++ l) ∷ []) ≡ prefixRead tagsAlone (pos 0) (l ∷ []) s
     reply-needs h c i = one-needs tagsAlone is-proper is-slim refl 3 tag-width 0 (omega arith) s l size t₀ t₁ empty (n ∷ []) q k (run-took s t₀ t₁ r first n q k e) h c i
 
-    pub reply-took : k / 3 ≤ length (t₁ ++ l) / 3 → (l₂ : List ℕ) (r₂ : Walked) → Runs (λ e. walk (e .0) (tagsShape (e .1 .t)) (e .1 .o)) s 0 (inTables (t₁ ++ l) 0) (inTablesIs l₂ r₂) → (accepted (n ∷ []) q, l₂ ∷ []) ≡ prefixRead tagsAlone (pos 0) (l ∷ []) s
+    pub reply-took : k / 3 ≤ length (t₁ ++ l) / 3 → (l₂ : List ℕ) (r₂ : Walked) → Runs (λ e. walk (e .0) (tagsShape true (e .1 .t)) (e .1 .o)) s 0 (inTables (t₁ ++ l) 0) (inTablesIs l₂ r₂) → (accepted (n ∷ []) q, l₂ ∷ []) ≡ prefixRead tagsAlone (pos 0) (l ∷ []) s
     unfolding store put
     reply-took h l₂ r₂ d = one-took tagsAlone is-proper is-slim refl 3 tag-width 0 (omega arith) s l size t₀ t₁ empty (n ∷ []) q k (run-took s t₀ t₁ r first n q k e) h l₂ (inTablesIs l₂ r₂ (false, alone, own [])) (λ x m i. holds r₂ x m i) (run-is s (t₁ ++ l) l₂ r₂ d)
       where

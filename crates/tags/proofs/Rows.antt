@@ -10,10 +10,11 @@ use Rattle.layout.specs.Read.{byPlace, read, readBasic, readBlob}
 use Rattle.layout.specs.Tables.{Span, cells, span}
 use Rattle.layout.proofs.Contents.{rowCells}
 use Rattle.rows.specs.Store.{store, tab}
+use Rattle.rows.specs.Tagged.{tagShape}
 use Rattle.rows.specs.Walk.{Runs, on, walk}
 use Rattle.rows.proofs.Flat.{placed-took, row-no}
 use Rattle.rows.proofs.Chains.{give-took, then-no, then-took}
-use Rattle.tags.specs.Answers.{inTable, inTableIs, ofTag, tagShape}
+use Rattle.tags.specs.Answers.{inTable, inTableIs, ofTag}
 use Rattle.tags.specs.declared.Tag.{Tag}
 use Rattle.tags.specs.declared.Tags.{Tags}
 

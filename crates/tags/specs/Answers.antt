@@ -3,21 +3,17 @@ use mathlib.Core.Bool.{Bool}
 use mathlib.Core.List.{List, [], _∷_}
 use Prim.Native.Nat.{ℕ}
 use Rattle.layout.specs.Reading.{Res, bad, ok}
-use Rattle.layout.specs.Primitives.{plain}
-use Rattle.layout.specs.Rows.{Shape, Value, array, blob, end, field, natural}
+use Rattle.layout.specs.Rows.{Value}
 use Rattle.layout.specs.Tables.{Span}
 use Rattle.layout.specs.Answers.{Answer, accepted, refused}
 use Rattle.primitives.specs.Answers.{ofRefusal}
 use Rattle.rows.specs.Store.{State, Tab, store, tab}
+use Rattle.rows.specs.Tagged.{tagShape}
 use Rattle.rows.specs.Walk.{Place, Places}
 use Rattle.tags.specs.declared.Tag.{Tag}
 use Rattle.tags.specs.declared.Tagged.{Tagged}
 use Rattle.tags.specs.declared.Tags.{Tags}
 use Rattle.tags.specs.declared.Walked.{Walked}
-
--- a tag's row: the tag, and its data
-abbrev pub tagShape : Shape
-tagShape = field natural (field (blob plain) end)
 
 abbrev pub ofTag : Tag → Res (Value Span tagShape)
 ofTag (Tag.Took t a k n) = ok (t, ((a, k), tt)) n
@@ -30,10 +26,6 @@ inTable l k e = e .1 .h (tab l k)
 abbrev pub inTableIs : List ℕ → Tags → Bool × Place → Res State
 inTableIs l (Tags.Took n k) e = ok (inTable l k e) n
 inTableIs l (Tags.Refused c) e = bad (ofRefusal c)
-
--- tagged fields at the end of a row, their tags in table t
-abbrev pub tagsShape : ℕ → Shape
-tagsShape t = array plain t tagShape end
 
 -- the table of the row so far and that of its tags, wherever they stand among the others
 abbrev pub inTables : List ℕ → ℕ → Bool × Places × Tab → State

@@ -1,13 +1,14 @@
 // Tagged fields, read: a number of tags, each with its data behind the data's length. Their rows (tag, start, length) go to a lent table.
 ghost use mathlib.Core.Path.{_≡_};
-ghost use mathlib.Core.Bool.{false};
+ghost use mathlib.Core.Bool.{false, true};
 ghost use mathlib.Core.List.{[], _∷_};
 ghost use lib.IntN.{pos};
 ghost use Rattle.layout.specs.Reading.{loop};
 ghost use Rattle.layout.specs.Read.{byPlace, read};
 ghost use Rattle.layout.specs.Answers.{prefixRead, tagsAlone};
+ghost use Rattle.rows.specs.Tagged.{tagShape, tagsShape};
 ghost use Rattle.rows.specs.Walk.{Runs, on, walk};
-ghost use Rattle.tags.specs.Answers.{inTable, inTableIs, inTables, inTablesIs, ofTag, ofTagged, tagShape, tagsShape};
+ghost use Rattle.tags.specs.Answers.{inTable, inTableIs, inTables, inTablesIs, ofTag, ofTagged};
 use fields::Part;
 use places::data_at;
 use places::varint_at;
@@ -113,7 +114,7 @@ pub fn tags_at(s: &[u8], p: usize, count: u64, table: &mut [u64], mark: usize) -
 
 // The number of tags and the tags, at the end of a row.
 pub fn tag_buffer_at(s: &[u8], p: usize, table: &mut [u64], mark: usize) -> Walked
-    ensures { λ r. ⌜ Runs (λ e. walk (e .0) (tagsShape (e .1 .t)) (e .1 .o)) (now (s .entry)) p (inTables (now (table .entry)) mark) (inTablesIs (now (table .exit)) r) ⌝ }
+    ensures { λ r. ⌜ Runs (λ e. walk (e .0) (tagsShape true (e .1 .t)) (e .1 .o)) (now (s .entry)) p (inTables (now (table .entry)) mark) (inTablesIs (now (table .exit)) r) ⌝ }
 {
     match varint_at(s, p) {
         Number::Took { value, used } => match tags_at(s, used, value, table, mark) {

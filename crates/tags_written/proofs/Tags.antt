@@ -20,6 +20,7 @@ use Rattle.layout.specs.Write.{basicFault, fault, firstOf, or, sizedFault, tooL
 use Rattle.layout.proofs.Proper.{both}
 use Rattle.layout.proofs.Tests.{lt-true, of-eq}
 use Rattle.rows.specs.Step.{Capped, Step, cap}
+use Rattle.rows.specs.Tagged.{tagShape, tagsShape}
 use Rattle.rows.specs.Writes.{bytesAt, countedBytes, faultAt, refusalOf, rowBytes, rowFault, rowsBytes}
 use Rattle.rows.proofs.Capped.{capped, capped-as, capped-behind}
 use Rattle.rows.proofs.Chunks.{row-cell}
@@ -33,9 +34,8 @@ use Rattle.ranges.proofs.Counts.{rows-other, rows-same}
 use Rattle.ranges.proofs.Lent.{good-one}
 use Rattle.writers.proofs.Answer.{refused-alone}
 use Rattle.writers.proofs.Called.{called}
-use Rattle.tags_written.specs.Tags.{tagShape, tagsShape}
 
-is-tags : shape tagsAlone 0 ≡ tagsShape 1
+is-tags : shape tagsAlone 0 ≡ tagsShape true 1
 unfolding shape at tagRows stands standing
 is-tags = refl
 
@@ -81,10 +81,10 @@ module _ (lent : List ℕ) (o t : ℕ) (st : Tables) (apart : t ≢ o) (there : 
   cell = getD (getD st o []) 0 0
 
   -- all rows of the table
-  pub tags-bytes : count cell ≡ length (getD st t []) / 3 → bytesAt lent (tagsShape t) o st ≡ countedBytes lent tagShape plain 3 (getD st t [])
+  pub tags-bytes : count cell ≡ length (getD st t []) / 3 → bytesAt lent (tagsShape true t) o st ≡ countedBytes lent tagShape plain 3 (getD st t [])
   tags-bytes n = all-bytes lent plain tagShape o t st tt 3 tag-wide apart there n refl
 
-  pub tags-clean : count cell < 2 ^ 64 → Cells (getD st t []) → length lent < 2 ^ 64 → faultAt lent (tagsShape t) o st ≡ 0
+  pub tags-clean : count cell < 2 ^ 64 → Cells (getD st t []) → length lent < 2 ^ 64 → faultAt lent (tagsShape true t) o st ≡ 0
   unfolding or tooLong
   tags-clean h f l = array-fault lent plain tagShape o t st tt 3 tag-wide apart there ∙ rows-clean lent (count cell) (getD st t []) f l
 
@@ -116,11 +116,11 @@ row-put table i h lent s =
 
 module _ (size c : ℕ) (table : List ℕ) where
   abbrev judged : Bool
-  judged = good size 1 (tagsShape 1) ((c ∷ []) ∷ table ∷ [])
+  judged = good size 1 (tagsShape true 1) ((c ∷ []) ∷ table ∷ [])
 
   pub is-good : judged ≡ (goodCount true c && (allRanged 3 1 size table && eqb (count c) (length table / 3)))
   unfolding kindOf kindIn arrays goodRow goodCells asked width
-  is-good = good-one size (tagsShape 1) tagShape 3 1 (count c) (goodCount true c) (c ∷ []) table refl tag-wide (and-true _) (add-zero (count c)) (tag-good size) (λ r. refl)
+  is-good = good-one size (tagsShape true 1) tagShape 3 1 (count c) (goodCount true c) (c ∷ []) table refl tag-wide (and-true _) (add-zero (count c)) (tag-good size) (λ r. refl)
 
   pub other-count : {k : ℕ} → k ≡ count c → k ≢ length table / 3 → false ≡ judged
   other-count e h = rows-other c (length table / 3) (allRanged 3 1 size table) e h ∙ sym is-good
@@ -137,7 +137,7 @@ module _ (lent table : List ℕ) (c : ℕ) (out : List ℕ) (f : Cells table) (t
   abbrev lentRows : Tables
   lentRows = (c ∷ []) ∷ table ∷ []
 
-  answer : (r : Answer × List ℕ) (e : ℕ) → r ≡ writeAlone e (countedBytes lent tagShape plain 3 table) out → refusalOf lent 1 (tagsShape 1) (tagsShape 1) lentRows ≡ e → r ≡ writeAnswer tagsAlone (pos 0) lent lentRows out
+  answer : (r : Answer × List ℕ) (e : ℕ) → r ≡ writeAlone e (countedBytes lent tagShape plain 3 table) out → refusalOf lent 1 (tagsShape true 1) (tagsShape true 1) lentRows ≡ e → r ≡ writeAnswer tagsAlone (pos 0) lent lentRows out
   answer r e w j =
       called tagsAlone (pos 0) 0 refl (lit≤ tt) (lit< tt) lent lentRows out r e (countedBytes lent tagShape plain 3 table) w (rw is-tags j)
       (rw is-tags (λ g. tags-bytes lent 0 1 lentRows (λ u. omega arith) (lit< tt) (good-rows (length lent) c table g)))

@@ -1,5 +1,6 @@
 // Tagged fields written: the rows of a table, each a tag with a part of the lent bytes. By a call of their own, or in a body.
 // One walk, run twice: over no room it only counts the bytes.
+ghost use mathlib.Core.Bool.{true};
 ghost use mathlib.Core.Path.{_≡_};
 ghost use mathlib.Core.List.{[], _∷_};
 ghost use lib.IntN.{pos};
@@ -9,10 +10,10 @@ ghost use Rattle.layout.specs.Answers.{tagsAlone, writeAnswer};
 ghost use Rattle.layout.specs.Primitives.{plain};
 ghost use Rattle.layout.specs.Tables.{good, rowsOf};
 ghost use Rattle.rows.specs.Step.{Capped, Step};
+ghost use Rattle.rows.specs.Tagged.{tagShape, tagsShape};
 ghost use Rattle.rows.specs.Writes.{countedBytes, rowBytes, rowsBytes};
 ghost use Rattle.put.specs.Put.{behindLength};
 ghost use Rattle.writers.specs.Answers.{replied};
-ghost use Rattle.tags_written.specs.Tags.{tagShape, tagsShape};
 use primitives::BAD_TABLES;
 use primitives::MOST;
 use primitives::TOO_LONG;
@@ -28,7 +29,7 @@ use writers::Written;
 
 // The table has the rows that the count tells, and all data are inside.
 pub fn is_good(size: usize, count: u64, table: &[u64]) -> bool
-    ensures { λ r. ⌜ r ≡ good size 1 (tagsShape 1) ((count ∷ []) ∷ now (table .entry) ∷ []) ⌝ }
+    ensures { λ r. ⌜ r ≡ good size 1 (tagsShape true 1) ((count ∷ []) ∷ now (table .entry) ∷ []) ⌝ }
 {
     if rows_told(count) != (table.len() / 3) as u64 {
         return false;

@@ -2,9 +2,10 @@
 use mathlib.Core.Path.{_≡_, refl}
 use lib.ListN.{length}
 use borrow.Author.Needs.{needs}
+use Rattle.rows.specs.Tagged.{tagShape}
 use Rattle.rows.specs.Walk.{walk}
 use Rattle.rows.proofs.Loops.{Going, going-done, going-start, turn-next, turn-no}
-use Rattle.tags.specs.Answers.{inTable, inTableIs, tagShape}
+use Rattle.tags.specs.Answers.{inTable, inTableIs}
 use Rattle.tags.proofs.tags_at.Statement.{statement}
 use Rattle.tags.proofs.tags_at.Tie as tie
 
@@ -17,32 +18,11 @@ abbrev μ-loop : tie.MeasureT-loop
 loop-holds : tie.Need-loop-holds Inv-loop μ-loop
 loop-holds c = (going-start _ _ _ _ _, refl)
 
-sub-left : tie.Need-sub-left Inv-loop μ-loop
-sub-left c = search needs
-
-tag-in-requires : tie.Need-tag-in-requires Inv-loop μ-loop
-tag-in-requires c κs = tt
-
-enum-known-q : tie.Need-enum-known-q Inv-loop μ-loop
-enum-known-q c = search needs
-
-loop-less : tie.Need-loop-less Inv-loop μ-loop
-loop-less c = search needs
-
 loop-again : tie.Need-loop-again Inv-loop μ-loop
 loop-again c = (turn-next _ _ _ _ _ _ _ _ (c .before .before .before .before .before .before .before .before .loop .inv .0) (c .before .before .before .before .before .before .before .loop-test .taken) (inTableIs _) _ _ (c .before .before .before .before .before .tag-in .ensures) (c .before .q .given .1) _ (λ e. refl), search needs)
 
-enum-known-e : tie.Need-enum-known-e Inv-loop μ-loop
-enum-known-e c = search needs
-
-same-length : tie.Need-same-length Inv-loop μ-loop
-same-length c = search needs
-
 returns : tie.Need-returns Inv-loop μ-loop
 returns c = turn-no _ _ _ _ _ _ _ _ (c .before .before .before .before .before .before .before .before .loop .inv .0) (c .before .before .before .before .before .before .before .loop-test .taken) (inTableIs _) _ _ (c .before .before .before .before .before .tag-in .ensures) (c .before .e .given .1) (λ e. refl)
-
-same-length-2 : tie.Need-same-length-2 Inv-loop μ-loop
-same-length-2 c = search needs
 
 returns-2 : tie.Need-returns-2 Inv-loop μ-loop
 returns-2 c = going-done _ _ _ _ _ _ _ _ (c .before .loop .inv .0) (c .loop-test .left)
@@ -51,16 +31,5 @@ pub tags-at-spec : {M : Type 1} → statement M
 tags-at-spec =
     tie.close
     (tie.spec
-    Inv-loop
-    μ-loop
-    loop-holds
-    sub-left
-    tag-in-requires
-    enum-known-q
-    loop-less
-    loop-again
-    enum-known-e
-    same-length
-    returns
-    same-length-2
-    returns-2)
+    Inv-loop μ-loop loop-holds (λ c. search needs) (λ c κs. tt) (λ c. search needs) (λ c. search needs) loop-again (λ c. search needs)
+    (λ c. search needs) returns (λ c. search needs) returns-2)

@@ -9,12 +9,9 @@ use Rattle.tags_written.proofs.put_data.Tie as tie
 add-result : tie.Need-add-result
 add-result c = omega (arith, c .before .before .before .before .before .before .before .unsigned-varint .ensures .count, c .before .before .raw .ensures .count, unsigned-length (length (c .before .before .before .before .before .before .before .before .before .before .before .args .content .now)))
 
-returns : tie.Need-returns
-returns c = search (needs, data-put)
-
 pub put-data-spec : {M : Type 1} → statement M
 put-data-spec =
     tie.close
     (tie.spec
     (λ c κs. search needs) (λ c κs. search needs) (λ c. search needs) (λ c. search needs) (λ c. search needs) (λ c κs. search needs) add-result
-    (λ c. search needs) returns)
+    (λ c. search needs) (λ c. search (needs, data-put)))

@@ -4,12 +4,9 @@ use borrow.Author.Needs.{needs}
 use Rattle.tags_written.proofs.put_row.Statement.{statement}
 use Rattle.tags_written.proofs.put_row.Tie as tie
 
-returns : tie.Need-returns
-returns c = search (needs, row-put)
-
 pub put-row-spec : {M : Type 1} → statement M
 put-row-spec =
     tie.close
     (tie.spec
     (λ c. search needs) (λ c. search needs) (λ c. search needs) (λ c. search needs) (λ c. search needs) (λ c. search needs) (λ c. search needs)
-    (λ c. search needs) (λ c. search needs) (λ c. search needs) (λ c. search needs) (λ c κs. search needs) (λ c. search needs) returns)
+    (λ c. search needs) (λ c. search needs) (λ c. search needs) (λ c. search needs) (λ c κs. search needs) (λ c. search needs) (λ c. search (needs, row-put)))

@@ -4,12 +4,9 @@ use borrow.Author.Needs.{needs}
 use Rattle.tags_written.proofs.put_tag.Statement.{statement}
 use Rattle.tags_written.proofs.put_tag.Tie as tie
 
-returns : tie.Need-returns
-returns c = search (needs, tag-put)
-
 pub put-tag-spec : {M : Type 1} → statement M
 put-tag-spec =
     tie.close
     (tie.spec
     (λ c κs. search needs) (λ c κs. search needs) (λ c. search needs) (λ c. search needs) (λ c. search needs) (λ c κs. search needs)
-    (λ c κs. search needs) (λ c κs. search needs) (λ c. search needs) returns)
+    (λ c κs. search needs) (λ c κs. search needs) (λ c. search needs) (λ c. search (needs, tag-put)))

@@ -2,8 +2,8 @@
 use borrow.Author.Needs.{needs}
 use Prim.Native.Nat.{_-_}
 use Rattle.rows.proofs.Turns.{Walked, walked-end, walked-more, walked-start}
+use Rattle.rows.specs.Tagged.{tagShape}
 use Rattle.rows.specs.Writes.{rowBytes, rowsBytes}
-use Rattle.tags_written.specs.Tags.{tagShape}
 use Rattle.tags_written.proofs.put_tags.Statement.{statement}
 use Rattle.tags_written.proofs.put_tags.Tie as tie
 

@@ -4,12 +4,9 @@ use borrow.Author.Needs.{needs}
 use Rattle.tags_written.proofs.tag_buffer.Statement.{statement}
 use Rattle.tags_written.proofs.tag_buffer.Tie as tie
 
-returns : tie.Need-returns
-returns c = search (needs, tags-put)
-
 pub tag-buffer-spec : {M : Type 1} → statement M
 tag-buffer-spec =
     tie.close
     (tie.spec
     (λ c κs. search needs) (λ c κs. search needs) (λ c. search needs) (λ c. search needs) (λ c. search needs) (λ c κs. search needs)
-    (λ c κs. search needs) (λ c. search needs) returns)
+    (λ c κs. search needs) (λ c. search needs) (λ c. search (needs, tags-put)))

@@ -1,18 +1,18 @@
 -- A version that lacks the texts asks nothing of them.
 use borrow.Author.Tests.{not-false, not-true}
-use Rattle.api_versions_request.proofs.Request.{name-bad, texts-lacking, texts-last}
+use Rattle.rows.proofs.Judged.{and-first, and-second, if-lacking, if-there}
 use borrow.Author.Needs.{needs}
 use Rattle.api_versions_request.proofs.writing.are_texts.Statement.{statement}
 use Rattle.api_versions_request.proofs.writing.are_texts.Tie as tie
 
 returns : tie.Need-returns
-returns c = texts-lacking (c .before .before .before .args .flexible) (c .before .before .before .args .name .now) (c .before .before .before .args .version .now) (not-true _ (c .if1 .taken))
+returns c = if-lacking (c .before .before .before .args .flexible) _ (not-true _ (c .if1 .taken))
 
 returns-2 : tie.Need-returns-2
-returns-2 c = name-bad (c .before .before .before .before .before .args .flexible) (c .before .before .before .before .before .args .name .now) (c .before .before .before .before .before .args .version .now) (not-false _ (c .before .before .if1 .left)) _ (c .before .is-text .ensures) (not-true _ (c .if2 .taken))
+returns-2 c = if-there (c .before .before .before .before .before .args .flexible) _ (not-false _ (c .before .before .if1 .left)) _ (and-first _ _ _ (c .before .is-text .ensures) (not-true _ (c .if2 .taken)))
 
 returns-3 : tie.Need-returns-3
-returns-3 c = texts-last (c .before .before .before .before .before .before .args .flexible) (c .before .before .before .before .before .before .args .name .now) (c .before .before .before .before .before .before .args .version .now) (not-false _ (c .before .before .before .if1 .left)) _ (c .before .before .is-text .ensures) (not-false _ (c .before .if2 .left)) _ (c .is-text2 .ensures)
+returns-3 c = if-there (c .before .before .before .before .before .before .args .flexible) _ (not-false _ (c .before .before .before .if1 .left)) _ (and-second _ _ _ (c .before .before .is-text .ensures) (not-false _ (c .before .if2 .left)) _ (c .is-text2 .ensures))
 
 pub are-texts-spec : {M : Type 1} → statement M
 are-texts-spec =

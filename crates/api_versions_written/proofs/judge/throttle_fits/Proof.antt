@@ -1,14 +1,17 @@
 -- A version that lacks the field asks nothing of it.
-use Rattle.api_versions_written.proofs.Fits.{throttle-lacking, throttle-there}
+use Rattle.layout.specs.Primitives.{holds}
+use Rattle.rows.proofs.Judged.{if-lacking, if-there}
+use Rattle.writers.specs.Answers.{within}
 use borrow.Author.Needs.{needs}
 use Rattle.api_versions_written.proofs.judge.throttle_fits.Statement.{statement}
 use Rattle.api_versions_written.proofs.judge.throttle_fits.Tie as tie
 
 returns : tie.Need-returns
-returns c = throttle-there _ _ (c .before .if1 .taken) _ (c .fits2 .ensures)
+unfolding holds within
+returns c = if-there (c .before .before .args .throttle) _ (c .before .if1 .taken) _ (c .fits2 .ensures)
 
 returns-2 : tie.Need-returns-2
-returns-2 c = throttle-lacking _ _ (c .if1 .left)
+returns-2 c = if-lacking (c .before .args .throttle) _ (c .if1 .left)
 
 pub throttle-fits-spec : {M : Type 1} → statement M
 throttle-fits-spec = tie.close (tie.spec

@@ -6,7 +6,7 @@ use Rattle.api_versions_written.proofs.response.items_part.Statement.{s
 use Rattle.api_versions_written.proofs.response.items_part.Tie as tie
 
 returns : tie.Need-returns
-returns c = capped-as (all-untagged _ _ _ _ (c .before .before .before .before .before .before .before .before .before .pre) (c .before .before .before .before .if1 .taken)) (c .before .before .untagged-items .ensures)
+returns c = capped-as (all-untagged (c .before .before .before .before .before .before .before .before .before .args .flexible) _ (c .before .before .before .before .before .before .before .before .before .args .tags .now) _ (c .before .before .before .before .before .before .before .before .before .pre) (c .before .before .before .before .if1 .taken)) (c .before .before .untagged-items .ensures)
 
 pub items-part-spec : {M : Type 1} → statement M
 items-part-spec =

@@ -5,7 +5,7 @@ use Rattle.api_versions_written.proofs.response.untagged_item.Statement
 use Rattle.api_versions_written.proofs.response.untagged_item.Tie as tie
 
 returns : tie.Need-returns
-returns c = untagged-put _ _ _ (c .before .before .before .before .before .before .before .before .before .before .before .before .before .before .before .pre) _ (c .before .before .before .before .before .behind .ensures) _ (c .add .ensures) (c .before .before .before .before .before .before .before .before .key .ensures) (c .before .before .before .no-tags .ensures)
+returns c = untagged-put (c .before .before .before .before .before .before .before .before .before .before .before .before .before .before .before .args .flexible) (c .before .before .before .before .before .before .before .before .before .before .before .before .before .before .before .args .items .now) _ (c .before .before .before .before .before .before .before .before .before .before .before .before .before .before .before .pre) _ (c .before .before .before .before .before .behind .ensures) _ (c .add .ensures) (c .before .before .before .before .before .before .before .before .key .ensures) (c .before .before .before .no-tags .ensures)
 
 pub untagged-item-spec : {M : Type 1} → statement M
 untagged-item-spec =

@@ -2,10 +2,11 @@
 use borrow.Author.Needs.{needs}
 use native.Mathlib.Omega.{arith}
 use Prim.Native.Nat.{_-_}
-use lib.ListN.{length}
+use mathlib.Core.List.{[]}
+use lib.ListN.{getD, length}
+use Rattle.layout.specs.Tables.{rowsOf}
 use Rattle.put.proofs.Even.{Even, even-end, even-inside, even-left, even-more, even-start}
-use Rattle.api_versions_written.specs.Shapes.{untaggedBytes}
-use Rattle.api_versions_written.proofs.Untagged.{told-some, told-wide}
+use Rattle.api_versions_written.proofs.Untagged.{told-some, told-wide, untaggedBytes}
 use Rattle.api_versions_written.proofs.response.untagged_rows.Statement.{statement}
 use Rattle.api_versions_written.proofs.response.untagged_rows.Tie as tie
 
@@ -37,7 +38,7 @@ loop-less : tie.Need-loop-less Inv-loop μ-loop
 loop-less c = omega (arith, even-inside (c .before .before .before .before .before .before .before .before .pre .1) (c .before .before .before .before .before .loop .inv), c .before .before .before .before .loop-test .taken, c .before .before .before .before .before .loop .inv .walked .step .long, told-some (c .before .before .before .before .before .before .before .before .args .flexible) (c .before .before .before .before .before .before .before .before .pre .0))
 
 loop-again : tie.Need-loop-again Inv-loop μ-loop
-loop-again c = even-more (c .before .before .before .before .before .before .before .before .pre .1) (c .before .before .before .before .before .loop .inv) (told-some (c .before .before .before .before .before .before .before .before .args .flexible) (c .before .before .before .before .before .before .before .before .pre .0)) (c .before .before .before .before .loop-test .taken) (told-wide (c .before .before .before .before .before .before .before .before .args .flexible) (c .before .before .before .before .before .before .before .before .pre .0) _) (c .before .before .untagged-item .ensures)
+loop-again c = even-more (c .before .before .before .before .before .before .before .before .pre .1) (c .before .before .before .before .before .loop .inv) (told-some (c .before .before .before .before .before .before .before .before .args .flexible) (c .before .before .before .before .before .before .before .before .pre .0)) (c .before .before .before .before .loop-test .taken) (told-wide (c .before .before .before .before .before .before .before .before .args .flexible) (c .before .before .before .before .before .before .before .before .pre .0) (getD (rowsOf 4 (c .before .before .before .before .before .before .before .before .args .items .now)) (c .before .before .before .before .before .loop .i) [])) (c .before .before .untagged-item .ensures)
 
 returns : tie.Need-returns Inv-loop μ-loop
 returns c = even-end (c .before .before .before .before .pre .1) (c .before .loop .inv) (c .loop-test .left)

@@ -1,4 +1,0 @@
--- the layout in parts
-pub mod Shapes
--- tests of numbers
-pub mod Judged

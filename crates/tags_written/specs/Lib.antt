@@ -1,2 +1,0 @@
--- the layout of tagged fields
-pub mod Tags
