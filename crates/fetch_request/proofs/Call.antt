@@ -20,7 +20,6 @@ use Rattle.primitives.specs.Answers.{versionOf}
 use Rattle.writers.proofs.Called.{called}
 use Rattle.versioned.specs.Cells.{given, versionedCells}
 use Rattle.versioned.specs.declared.Versioned.{Versioned}
-use Rattle.fetch_request.specs.Judged.{bothHold}
 use Rattle.fetch_request.specs.Shapes.{leadShape, limitsShape, requestShape, topicShape, topicsShape}
 use Rattle.fetch_request.proofs.OwnRow.{good-topics, is-fault, is-good}
 use Rattle.fetch_request.proofs.Walk.{lead-bytes, limits-bytes, topics-bytes}
@@ -50,7 +49,7 @@ module _ (b i : Bool) (k m k′ m′ largest level : ℕ) (e : getD (chosen (214
     refusal-same = λ t.
         cond ((is-good (length lent) c topics partitions replica wait least k m k′ m′ ∙ sym (is-good (length lent) c topics partitions replica wait least 2 largest 2 level)) t)
         ((is-fault lent replica wait least k m k′ m′ c topics partitions b i
-        ∙ (λ s. or (unless (holds w32 replica && bothHold wait least) 11) (or (unless (cond b (holds w32 (e s)) true && cond i (leb (f s) 1) true) 11) (itemsFault lent topicShape (count c) 1 ([] ∷ topics ∷ partitions ∷ []))))
+        ∙ (λ s. or (unless (holds w32 replica && (holds w32 wait && holds w32 least)) 11) (or (unless (cond b (holds w32 (e s)) true && cond i (leb (f s) 1) true) 11) (itemsFault lent topicShape (count c) 1 ([] ∷ topics ∷ partitions ∷ []))))
         ∙ sym (is-fault lent replica wait least 2 largest 2 level c topics partitions b i)) t) 13
 
     module _ (s : length topics < 2 ^ 64) (g : good (length lent) 2 (requestShape false false) (row k m k′ m′ c) ≡ true) where

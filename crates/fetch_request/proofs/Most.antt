@@ -15,7 +15,7 @@ use Rattle.rows.specs.Step.{cap}
 use Rattle.rows.specs.Writes.{bytesAt, itemsBytes, takes}
 use Rattle.rows.proofs.Nested.{one, takes-first}
 use Rattle.fetch_request.specs.declared.Own.{Own}
-use Rattle.fetch_request.specs.Shapes.{limitsRow, ownRow, ownShape, topicShape}
+use Rattle.fetch_request.specs.Shapes.{ownRow, requestShape, topicShape}
 use Rattle.fetch_request.proofs.Walk.{lead-are, lead-bytes, limits-are, limits-bytes, topic-wide, topicNest, topics-bytes}
 
 -- no product is too big
@@ -58,16 +58,16 @@ module _ (lent topics partitions : List ℕ) (own : Own) (h : sum (takes 3 2) (r
   unfolding rowsOf
   topics-most = omega (arith, each-most lent (length lent + 6) (omega arith) (length topics / 3) topics partitions h, mul-le-mul-right {m = length topics / 3} {n = length topics} (length lent + 6) (div-le-self (length topics) 3))
 
-  request-is : bytesAt lent (ownShape own) 0 (ownRow own n ∷ topics ∷ partitions ∷ [])
+  request-is : bytesAt lent (requestShape (own .limited) (own .isolated)) 0 (ownRow own n ∷ topics ∷ partitions ∷ [])
       ≡ (bytes 4 (own .replica) ++ (bytes 4 (own .wait) ++ bytes 4 (own .least))) ++ ((cond (own .limited) (bytes 4 (own .largest)) [] ++ cond (own .isolated) (bytes 1 (own .level)) []) ++ (bytes 4 n ++ itemsBytes lent topicShape n 1 ([] ∷ topics ∷ partitions ∷ [])))
   unfolding lengthBytes
   request-is =
-      lead-bytes lent (own .limited) (own .isolated) (own .replica) (own .wait) (own .least) (limitsRow own n) topics partitions
+      lead-bytes lent (own .limited) (own .isolated) (own .replica) (own .wait) (own .least) (2 ∷ own .largest ∷ 2 ∷ own .level ∷ n ∷ []) topics partitions
       ∙ ap₂ (λ (x y : List ℕ). x ++ y) (sym (lead-are (own .replica) (own .wait) (own .least)))
       (limits-bytes lent (own .limited) (own .isolated) 2 (own .largest) 2 (own .level) n topics partitions
       ∙ ap₂ (λ (x y : List ℕ). x ++ y) (sym (limits-are (own .limited) (own .isolated) (own .largest) (own .level))) (topics-bytes lent n topics partitions (omega arith)))
 
-  request-most : length (bytesAt lent (ownShape own) 0 (ownRow own n ∷ topics ∷ partitions ∷ [])) ≤ length topics * (length lent + 6) + length partitions * 16 + 21
+  request-most : length (bytesAt lent (requestShape (own .limited) (own .isolated)) 0 (ownRow own n ∷ topics ∷ partitions ∷ [])) ≤ length topics * (length lent + 6) + length partitions * 16 + 21
   request-most =
       omega (
         arith,
@@ -88,5 +88,5 @@ module _ (lent topics partitions : List ℕ) (own : Own) (h : sum (takes 3 2) (r
       )
 
   -- r is told to be at least as many, up to the limit, and fits in m
-  pub most-told : {r m : ℕ} → cap (length topics * (length lent + 6) + length partitions * 16 + 21) ≤ r → r ≤ most → r ≤ m → length (bytesAt lent (ownShape own) 0 (ownRow own n ∷ topics ∷ partitions ∷ [])) ≤ m
+  pub most-told : {r m : ℕ} → cap (length topics * (length lent + 6) + length partitions * 16 + 21) ≤ r → r ≤ most → r ≤ m → length (bytesAt lent (requestShape (own .limited) (own .isolated)) 0 (ownRow own n ∷ topics ∷ partitions ∷ [])) ≤ m
   most-told k l f = omega (arith, request-most, k, l, f)

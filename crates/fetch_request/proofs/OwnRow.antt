@@ -22,8 +22,7 @@ use Rattle.rows.proofs.Writes.{any-fault, refusal-bad, refusal-good, refusal-no
 use Rattle.ranges.specs.Asked.{allRanged, ranged, tells, told, toldGood}
 use Rattle.ranges.proofs.Lent.{all-true, good-two, rows-agree, rows-differ}
 use Rattle.fetch_request.specs.declared.Own.{Own}
-use Rattle.fetch_request.specs.Judged.{bothHold}
-use Rattle.fetch_request.specs.Shapes.{ownRow, ownShape, partitionShape, requestShape, topicShape, topicsShape}
+use Rattle.fetch_request.specs.Shapes.{ownRow, partitionShape, requestShape, topicShape, topicsShape}
 
 -- ---- 13: there is no null here
 
@@ -96,10 +95,9 @@ module _ (lent : List ℕ) (replica wait least k m k′ m′ c : ℕ) (topics pa
   behind = any-fault lent (fixed w32 empty) topicShape 0 1 ((c ∷ []) ∷ topics ∷ partitions ∷ [])
 
   abbrev leadHolds : Bool
-  leadHolds = holds w32 replica && bothHold wait least
+  leadHolds = holds w32 replica && (holds w32 wait && holds w32 least)
 
   lead-part : (x : ℕ) → or (unless (holds w32 replica) 11) (or (unless (holds w32 wait) 11) (or (unless (holds w32 least) 11) x)) ≡ or (unless leadHolds 11) x
-  unfolding bothHold
   lead-part x = ap (or (unless (holds w32 replica) 11)) (or-both (holds w32 wait) (holds w32 least) 10 x) ∙ or-both (holds w32 replica) (holds w32 wait && holds w32 least) 10 x
 
   abbrev limitsHold : Bool → Bool → Bool
@@ -116,20 +114,20 @@ module _ (lent : List ℕ) (replica wait least k m k′ m′ c : ℕ) (topics pa
 
 module _ (lent : List ℕ) (c : ℕ) (topics partitions : List ℕ) (own : Own) where
   abbrev refusal : ℕ
-  refusal = refusalOf lent 2 (requestShape false false) (ownShape own) (ownRow own c ∷ topics ∷ partitions ∷ [])
+  refusal = refusalOf lent 2 (requestShape false false) (requestShape (own .limited) (own .isolated)) (ownRow own c ∷ topics ∷ partitions ∷ [])
 
   same-good : good (length lent) 2 (requestShape false false) (ownRow own c ∷ topics ∷ partitions ∷ []) ≡ judged (length lent) c topics partitions
   same-good = is-good (length lent) c topics partitions (own .replica) (own .wait) (own .least) 2 (own .largest) 2 (own .level) ∙ sym (is-good (length lent) c topics partitions 0 0 0 0 0 0 0)
 
   -- no number is given: the tables are good
   pub fault-good : {e : ℕ} → e ≡ refusal → e ≡ 0 → judged (length lent) c topics partitions ≡ true
-  fault-good i h = sym same-good ∙ refusal-none lent 2 (requestShape false false) (ownShape own) (ownRow own c ∷ topics ∷ partitions ∷ []) i h
+  fault-good i h = sym same-good ∙ refusal-none lent 2 (requestShape false false) (requestShape (own .limited) (own .isolated)) (ownRow own c ∷ topics ∷ partitions ∷ []) i h
 
   module _ (g : Bool) (e : g ≡ judged (length lent) c topics partitions) where
     pub fault-bad : g ≡ false → 13 ≡ refusal
-    fault-bad = refusal-bad lent 2 (requestShape false false) (ownShape own) (ownRow own c ∷ topics ∷ partitions ∷ []) (e ∙ sym same-good)
+    fault-bad = refusal-bad lent 2 (requestShape false false) (requestShape (own .limited) (own .isolated)) (ownRow own c ∷ topics ∷ partitions ∷ []) (e ∙ sym same-good)
 
-    module _ (h : g ≡ true) (x : Bool) (j : x ≡ (holds w32 (own .replica) && bothHold (own .wait) (own .least))) where
+    module _ (h : g ≡ true) (x : Bool) (j : x ≡ (holds w32 (own .replica) && (holds w32 (own .wait) && holds w32 (own .least)))) where
       rows : count c ≡ length topics / 3
       rows = good-topics (length lent) c topics partitions (sym e ∙ h)
 
@@ -137,7 +135,7 @@ module _ (lent : List ℕ) (c : ℕ) (topics partitions : List ℕ) (own : Own) 
           r ≡ or (unless x 11) (or (unless y 11) (itemsFault lent topicShape (length topics / 3) 1 ([] ∷ topics ∷ partitions ∷ []))) → r ≡ refusal
       unfolding chosen
       judge y l r f =
-          refusal-good lent 2 (requestShape false false) (ownShape own) (ownRow own c ∷ topics ∷ partitions ∷ []) (e ∙ sym same-good) h r
+          refusal-good lent 2 (requestShape false false) (requestShape (own .limited) (own .isolated)) (ownRow own c ∷ topics ∷ partitions ∷ []) (e ∙ sym same-good) h r
           (f
           ∙ (λ t. or (unless (j t) 11) (or (unless (l t) 11) (itemsFault lent topicShape (sym rows t) 1 ([] ∷ topics ∷ partitions ∷ []))))
           ∙ sym (is-fault lent (own .replica) (own .wait) (own .least) 2 (own .largest) 2 (own .level) c topics partitions (own .limited) (own .isolated)))

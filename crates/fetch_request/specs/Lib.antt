@@ -2,5 +2,3 @@
 pub mod Answers
 -- the layout of a version
 pub mod Shapes
--- tests of a row of partitions
-pub mod Judged

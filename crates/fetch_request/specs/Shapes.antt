@@ -26,12 +26,6 @@ leadShape r = field (number w32) (field (number w32) (field (number w32) r))
 abbrev pub requestShape : Bool → Bool → Shape
 requestShape b i = leadShape (limitsShape b i topicsShape)
 
-abbrev pub ownShape : Own → Shape
-ownShape x = requestShape (x .limited) (x .isolated)
-
 -- n is the number of topics
-abbrev pub limitsRow : Own → ℕ → List ℕ
-limitsRow x n = 2 ∷ x .largest ∷ 2 ∷ x .level ∷ n ∷ []
-
 abbrev pub ownRow : Own → ℕ → List ℕ
-ownRow x n = x .replica ∷ x .wait ∷ x .least ∷ limitsRow x n
+ownRow x n = x .replica ∷ x .wait ∷ x .least ∷ 2 ∷ x .largest ∷ 2 ∷ x .level ∷ n ∷ []

@@ -5,12 +5,11 @@ ghost use mathlib.Core.Path.{_≡_};
 ghost use mathlib.Core.List.{[], _∷_};
 ghost use lib.ListN.{getD, length};
 ghost use Prim.Native.Nat.{_/_, _<_, _^_, _≤_};
-ghost use lib.Dec.{leb};
+ghost use lib.Dec.{eqb, leb, ltb};
 ghost use Rattle.layout.specs.Primitives.{holds, w32};
-ghost use Rattle.layout.specs.Tables.{all, good, rowsOf, sum};
-ghost use Rattle.rows.specs.Writes.{faultAt, itemsFault, refusalOf, takes};
-ghost use Rattle.fetch_request.specs.Judged.{bothHold, bothSmall, partitionHolds, partitionSmall};
-ghost use Rattle.fetch_request.specs.Shapes.{ownRow, ownShape, requestShape, topicShape};
+ghost use Rattle.layout.specs.Tables.{good, rowsOf, sum};
+ghost use Rattle.rows.specs.Writes.{faultAt, itemsFault, refusalOf, rowFault, rowsFault, takes};
+ghost use Rattle.fetch_request.specs.Shapes.{ownRow, partitionShape, requestShape, topicShape};
 use crate::Own;
 use primitives::BAD_TABLES;
 use primitives::TOO_WIDE;
@@ -39,7 +38,7 @@ fn is_good(size: usize, count: u64, topics: &[u64], partitions: &[u64]) -> bool
 // ---- 11: the own row's numbers
 
 fn both_fit(m: u64, n: u64) -> bool
-    ensures { λ r. ⌜ r ≡ bothHold m n ⌝ }
+    ensures { λ r. ⌜ r ≡ (holds w32 m && holds w32 n) ⌝ }
 {
     if !fits(m, 2147483648) {
         return false;
@@ -48,7 +47,7 @@ fn both_fit(m: u64, n: u64) -> bool
 }
 
 fn lead_fits(replica: u64, wait: u64, least: u64) -> bool
-    ensures { λ r. ⌜ r ≡ (holds w32 replica && bothHold wait least) ⌝ }
+    ensures { λ r. ⌜ r ≡ (holds w32 replica && (holds w32 wait && holds w32 least)) ⌝ }
 {
     if !fits(replica, 2147483648) {
         return false;
@@ -89,7 +88,7 @@ fn limits_fit(b: bool, i: bool, largest: u64, level: u64) -> bool
 
 // No number below zero: the test that is shorter.
 fn both_small(m: u64, n: u64) -> bool
-    ensures { λ r. ⌜ r ≡ bothSmall m n ⌝ }
+    ensures { λ r. ⌜ r ≡ (ltb m 2147483648 && ltb n 2147483648) ⌝ }
 {
     if 2147483648 <= m {
         return false;
@@ -97,16 +96,17 @@ fn both_small(m: u64, n: u64) -> bool
     n < 2147483648
 }
 
+// A row that it says to be small has no fault; of others it says nothing.
 fn is_small(partitions: &[u64], i: usize) -> bool
     requires { ⌜ i < length (now partitions) / 3 ⌝ }
-    ensures { λ r. ⌜ r ≡ partitionSmall (getD (rowsOf 3 (now (partitions .entry))) i []) ⌝ }
+    ensures { λ r. ⌜ r ≡ (r && eqb (rowFault [] partitionShape (getD (rowsOf 3 (now (partitions .entry))) i [])) 0) ⌝ }
 {
     both_small(partitions[i * 3], partitions[i * 3 + 2])
 }
 
 // Two rows a turn, the numbers of both loaded before one is judged, so that one test does for all four.
 fn all_small(partitions: &[u64]) -> bool
-    ensures { λ r. ⌜ r ≡ all partitionSmall (rowsOf 3 (now (partitions .entry))) ⌝ }
+    ensures { λ r. ⌜ r ≡ (r && eqb (rowsFault [] partitionShape 3 (now (partitions .entry))) 0) ⌝ }
 {
     let n = partitions.len() / 3;
     let mut turn: usize = 0;
@@ -128,7 +128,7 @@ fn all_small(partitions: &[u64]) -> bool
 }
 
 fn all_fit(partitions: &[u64]) -> bool
-    ensures { λ r. ⌜ r ≡ all partitionHolds (rowsOf 3 (now (partitions .entry))) ⌝ }
+    ensures { λ r. ⌜ r ≡ eqb (rowsFault [] partitionShape 3 (now (partitions .entry))) 0 ⌝ }
 {
     let n = partitions.len() / 3;
     let mut i: usize = 0;
@@ -143,7 +143,7 @@ fn all_fit(partitions: &[u64]) -> bool
 
 // Mostly no number is below zero.
 fn partitions_fit(partitions: &[u64]) -> bool
-    ensures { λ r. ⌜ r ≡ all partitionHolds (rowsOf 3 (now (partitions .entry))) ⌝ }
+    ensures { λ r. ⌜ r ≡ eqb (rowsFault [] partitionShape 3 (now (partitions .entry))) 0 ⌝ }
 {
     if all_small(partitions) {
         return true;
@@ -196,7 +196,7 @@ fn topics_fault(lent: &[u8], topics: &[u64], partitions: &[u64]) -> u8
 
 // 13, 11, 7, or 0 for none of them.
 pub(crate) fn refusal(own: Own, count: u64, lent: &[u8], topics: &[u64], partitions: &[u64]) -> u8
-    ensures { λ r. ⌜ r ≡ refusalOf (now (lent .entry)) 2 (requestShape false false) (ownShape own) (ownRow own count ∷ now (topics .entry) ∷ now (partitions .entry) ∷ []) ⌝ }
+    ensures { λ r. ⌜ r ≡ refusalOf (now (lent .entry)) 2 (requestShape false false) (requestShape (own .limited) (own .isolated)) (ownRow own count ∷ now (topics .entry) ∷ now (partitions .entry) ∷ []) ⌝ }
 {
     if !is_good(lent.len(), count, topics, partitions) {
         return BAD_TABLES;

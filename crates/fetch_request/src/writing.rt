@@ -14,7 +14,7 @@ ghost use Rattle.rows.specs.Step.{Capped, cap};
 ghost use Rattle.rows.specs.Writes.{bytesAt, countedBytes, itemsBytes, refusalOf, rowBytes, rowsBytes, takes};
 ghost use Rattle.writers.specs.Answers.{replied};
 ghost use Rattle.fetch_request.specs.Answers.{ofRequest};
-ghost use Rattle.fetch_request.specs.Shapes.{leadShape, limitsRow, limitsShape, ownRow, ownShape, partitionShape, requestShape, topicShape, topicsShape};
+ghost use Rattle.fetch_request.specs.Shapes.{leadShape, limitsShape, ownRow, partitionShape, requestShape, topicShape, topicsShape};
 use crate::Own;
 use crate::RequestBody;
 use crate::judge::cells;
@@ -176,7 +176,7 @@ fn lead(out: &mut [u8], replica: u64, wait: u64, least: u64) -> usize
 // What stands behind min bytes.
 fn rest(out: &mut [u8], own: Own, lent: &[u8], topics: &[u64], partitions: &[u64]) -> usize
     requires { ⌜ sum (takes 3 2) (rowsOf 3 (now topics)) ≤ length (now partitions) ⌝ }
-    ensures { λ r. ⌜ Capped (bytesAt (now (lent .entry)) (limitsShape (own .limited) (own .isolated) topicsShape) 0 (limitsRow own (length (now (topics .entry)) / 3) ∷ now (topics .entry) ∷ now (partitions .entry) ∷ [])) (now (out .entry)) r (now (out .exit)) ⌝ }
+    ensures { λ r. ⌜ Capped (bytesAt (now (lent .entry)) (limitsShape (own .limited) (own .isolated) topicsShape) 0 ((2 ∷ own .largest ∷ 2 ∷ own .level ∷ length (now (topics .entry)) / 3 ∷ []) ∷ now (topics .entry) ∷ now (partitions .entry) ∷ [])) (now (out .entry)) r (now (out .exit)) ⌝ }
 {
     let x = limits(out, own.limited, own.isolated, own.largest, own.level);
     let p = put::behind(x, out.len());
@@ -186,7 +186,7 @@ fn rest(out: &mut [u8], own: Own, lent: &[u8], topics: &[u64], partitions: &[u64
 
 fn body(out: &mut [u8], own: Own, lent: &[u8], topics: &[u64], partitions: &[u64]) -> usize
     requires { ⌜ sum (takes 3 2) (rowsOf 3 (now topics)) ≤ length (now partitions) ⌝ }
-    ensures { λ r. ⌜ Capped (bytesAt (now (lent .entry)) (ownShape own) 0 (ownRow own (length (now (topics .entry)) / 3) ∷ now (topics .entry) ∷ now (partitions .entry) ∷ [])) (now (out .entry)) r (now (out .exit)) ⌝ }
+    ensures { λ r. ⌜ Capped (bytesAt (now (lent .entry)) (requestShape (own .limited) (own .isolated)) 0 (ownRow own (length (now (topics .entry)) / 3) ∷ now (topics .entry) ∷ now (partitions .entry) ∷ [])) (now (out .entry)) r (now (out .exit)) ⌝ }
 {
     let x = lead(out, own.replica, own.wait, own.least);
     let p = put::behind(x, out.len());
@@ -199,7 +199,7 @@ fn body(out: &mut [u8], own: Own, lent: &[u8], topics: &[u64], partitions: &[u64
 // Measured, and written where there is room.
 fn measured(out: &mut [u8], own: Own, lent: &[u8], topics: &[u64], partitions: &[u64]) -> Written
     requires { ⌜ sum (takes 3 2) (rowsOf 3 (now topics)) ≤ length (now partitions) ⌝ }
-    ensures { λ r. ⌜ replied r (now (out .exit)) ≡ writeAlone 0 (bytesAt (now (lent .entry)) (ownShape own) 0 (ownRow own (length (now (topics .entry)) / 3) ∷ now (topics .entry) ∷ now (partitions .entry) ∷ [])) (now (out .entry)) ⌝ }
+    ensures { λ r. ⌜ replied r (now (out .exit)) ≡ writeAlone 0 (bytesAt (now (lent .entry)) (requestShape (own .limited) (own .isolated)) 0 (ownRow own (length (now (topics .entry)) / 3) ∷ now (topics .entry) ∷ now (partitions .entry) ∷ [])) (now (out .entry)) ⌝ }
 {
     let all = body(&mut out[..0], own, lent, topics, partitions);
     if MOST < all {
@@ -231,7 +231,7 @@ fn most_bytes(lent: usize, topics: usize, partitions: usize) -> usize
 // Where the room is plainly enough nothing is measured.
 fn stored(out: &mut [u8], own: Own, lent: &[u8], topics: &[u64], partitions: &[u64]) -> Written
     requires { ⌜ sum (takes 3 2) (rowsOf 3 (now topics)) ≤ length (now partitions) ⌝ }
-    ensures { λ r. ⌜ replied r (now (out .exit)) ≡ writeAlone 0 (bytesAt (now (lent .entry)) (ownShape own) 0 (ownRow own (length (now (topics .entry)) / 3) ∷ now (topics .entry) ∷ now (partitions .entry) ∷ [])) (now (out .entry)) ⌝ }
+    ensures { λ r. ⌜ replied r (now (out .exit)) ≡ writeAlone 0 (bytesAt (now (lent .entry)) (requestShape (own .limited) (own .isolated)) 0 (ownRow own (length (now (topics .entry)) / 3) ∷ now (topics .entry) ∷ now (partitions .entry) ∷ [])) (now (out .entry)) ⌝ }
 {
     let enough = most_bytes(lent.len(), topics.len(), partitions.len());
     if enough <= MOST {
@@ -251,7 +251,7 @@ fn written(
     topics: &[u64],
     partitions: &[u64],
 ) -> Written
-    ensures { λ r. ⌜ replied r (now (out .exit)) ≡ writeAlone (refusalOf (now (lent .entry)) 2 (requestShape false false) (ownShape own) (ownRow own count ∷ now (topics .entry) ∷ now (partitions .entry) ∷ [])) (bytesAt (now (lent .entry)) (ownShape own) 0 (ownRow own (length (now (topics .entry)) / 3) ∷ now (topics .entry) ∷ now (partitions .entry) ∷ [])) (now (out .entry)) ⌝ }
+    ensures { λ r. ⌜ replied r (now (out .exit)) ≡ writeAlone (refusalOf (now (lent .entry)) 2 (requestShape false false) (requestShape (own .limited) (own .isolated)) (ownRow own count ∷ now (topics .entry) ∷ now (partitions .entry) ∷ [])) (bytesAt (now (lent .entry)) (requestShape (own .limited) (own .isolated)) 0 (ownRow own (length (now (topics .entry)) / 3) ∷ now (topics .entry) ∷ now (partitions .entry) ∷ [])) (now (out .entry)) ⌝ }
 {
     let e = refusal(own, count, lent, topics, partitions);
     if e != 0 {

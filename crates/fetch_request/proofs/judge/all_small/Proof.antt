@@ -1,14 +1,15 @@
--- Before each turn the rows of the turns before have no number below zero, and those left decide.
+-- Before each turn the rows of the turns before have no fault, and those left decide.
 use borrow.Author.Needs.{needs}
-use borrow.Author.Tests.{not-false, not-true}
+use borrow.Author.Tests.{not-false}
+use mathlib.Core.Path.{refl}
 use Prim.Native.Nat.{_*_, _-_, _/_}
-use Rattle.rows.proofs.Judged.{Judged, judged-end, judged-start, odd-last, pair-first, pair-more, pair-second}
-use Rattle.fetch_request.specs.Judged.{partitionSmall}
+use Rattle.rows.proofs.Judged.{Judged, judged-start, pair-more}
+use Rattle.fetch_request.proofs.Fits.{clean, small-end, small-last, sure}
 use Rattle.fetch_request.proofs.judge.all_small.Statement.{statement}
 use Rattle.fetch_request.proofs.judge.all_small.Tie as tie
 
 abbrev Inv-loop : tie.InvT-loop
-Inv-loop partitions n turn₀ turn = Judged partitionSmall 3 partitions (turn * 2)
+Inv-loop partitions n turn₀ turn = Judged clean 3 partitions (turn * 2)
 
 abbrev μ-loop : tie.MeasureT-loop
 μ-loop partitions n turn₀ turn = n / 2 - turn
@@ -16,24 +17,20 @@ abbrev μ-loop : tie.MeasureT-loop
 loop-holds : tie.Need-loop-holds Inv-loop μ-loop
 loop-holds c = judged-start _ _ _
 
-returns : tie.Need-returns Inv-loop μ-loop
-returns c = pair-first (c .before .before .before .before .loop .inv) (c .before .before .is-small .ensures) (c .before .before .before .loop-test .taken) (not-true _ (c .if1 .taken))
-
-returns-2 : tie.Need-returns-2 Inv-loop μ-loop
-returns-2 c = pair-second (c .before .before .before .before .before .loop .inv) (c .before .before .before .is-small .ensures) (c .before .before .before .before .loop-test .taken) (not-false _ (c .before .if1 .left)) (c .before .before .is-small2 .ensures) (not-true _ (c .if2 .taken))
-
 loop-again : tie.Need-loop-again Inv-loop μ-loop
-loop-again c = pair-more (c .before .before .before .before .before .loop .inv) (c .before .before .before .is-small .ensures) (c .before .before .before .before .loop-test .taken) (not-false _ (c .before .if1 .left)) (c .before .before .is-small2 .ensures) (not-false _ (c .if2 .left))
+loop-again c =
+    pair-more (c .before .before .before .before .before .loop .inv) (sure (c .before .before .before .is-small .ensures) (not-false _ (c .before .if1 .left))) (c .before .before .before .before .loop-test .taken) (not-false _ (c .before .if1 .left))
+    (sure (c .before .before .is-small2 .ensures) (not-false _ (c .if2 .left))) (not-false _ (c .if2 .left))
 
 returns-3 : tie.Need-returns-3 Inv-loop μ-loop
-returns-3 c = odd-last (c .before .before .before .loop .inv) (c .is-small3 .ensures) (c .before .before .loop-test .left) (c .before .if3 .taken)
+returns-3 c = small-last _ (c .before .before .before .loop .inv) _ (c .is-small3 .ensures) (c .before .before .loop-test .left) (c .before .if3 .taken)
 
 returns-4 : tie.Need-returns-4 Inv-loop μ-loop
-returns-4 c = judged-end _ _ _ _ (c .before .before .loop .inv) (c .if3 .left)
+returns-4 c = small-end _ (c .before .before .loop .inv) (c .if3 .left)
 
 pub all-small-spec : {M : Type 1} → statement M
 all-small-spec =
     tie.close
     (tie.spec
-    Inv-loop μ-loop loop-holds (λ c. search needs) (λ c κs. search needs) (λ c. search needs) (λ c. search needs) (λ c κs. search needs) returns
-    returns-2 (λ c. search needs) (λ c. search needs) loop-again (λ c. search needs) (λ c. search needs) (λ c κs. search needs) returns-3 returns-4)
+    Inv-loop μ-loop loop-holds (λ c. search needs) (λ c κs. search needs) (λ c. search needs) (λ c. search needs) (λ c κs. search needs) (λ c. refl)
+    (λ c. refl) (λ c. search needs) (λ c. search needs) loop-again (λ c. search needs) (λ c. search needs) (λ c κs. search needs) returns-3 returns-4)

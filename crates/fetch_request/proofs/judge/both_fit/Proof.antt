@@ -2,17 +2,15 @@
 use borrow.Author.Needs.{needs}
 use borrow.Author.Tests.{not-false, not-true}
 use mathlib.Core.Path.{_∙_}
-use Rattle.fetch_request.specs.Judged.{bothHold}
-use Rattle.fetch_request.proofs.Fits.{and-first, and-second, is-held}
+use Rattle.rows.proofs.Judged.{and-first, and-second}
+use Rattle.fetch_request.proofs.Fits.{is-held}
 use Rattle.fetch_request.proofs.judge.both_fit.Statement.{statement}
 use Rattle.fetch_request.proofs.judge.both_fit.Tie as tie
 
 returns : tie.Need-returns
-unfolding bothHold
 returns c = and-first _ _ _ (c .before .fits2 .ensures ∙ is-held _) (not-true _ (c .if1 .taken))
 
 returns-2 : tie.Need-returns-2
-unfolding bothHold
 returns-2 c = and-second _ _ _ (c .before .before .fits2 .ensures ∙ is-held _) (not-false _ (c .before .if1 .left)) _ (c .fits3 .ensures ∙ is-held _)
 
 pub both-fit-spec : {M : Type 1} → statement M

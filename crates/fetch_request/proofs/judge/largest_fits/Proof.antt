@@ -1,14 +1,16 @@
 -- A version that lacks the field asks nothing of it.
 use borrow.Author.Needs.{needs}
-use Rattle.fetch_request.proofs.Fits.{largest-lacking, largest-there}
+use mathlib.Core.Path.{_∙_}
+use Rattle.rows.proofs.Judged.{if-lacking, if-there}
+use Rattle.fetch_request.proofs.Fits.{is-held}
 use Rattle.fetch_request.proofs.judge.largest_fits.Statement.{statement}
 use Rattle.fetch_request.proofs.judge.largest_fits.Tie as tie
 
 returns : tie.Need-returns
-returns c = largest-there (c .before .before .args .b) _ (c .before .if1 .taken) _ (c .fits2 .ensures)
+returns c = if-there (c .before .before .args .b) _ (c .before .if1 .taken) _ (c .fits2 .ensures ∙ is-held _)
 
 returns-2 : tie.Need-returns-2
-returns-2 c = largest-lacking (c .before .args .b) _ (c .if1 .left)
+returns-2 c = if-lacking (c .before .args .b) _ (c .if1 .left)
 
 pub largest-fits-spec : {M : Type 1} → statement M
 largest-fits-spec = tie.close (tie.spec
