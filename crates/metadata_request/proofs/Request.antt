@@ -14,7 +14,7 @@ use borrow.Rule.Slice.PartMut.{midOf, putMid}
 use Rattle.layout.specs.Answers.{Answer, shape, writeAlone, writeAnswer}
 use Rattle.layout.specs.Messages.Metadata.{nameRows, request, requestRows}
 use Rattle.layout.specs.Primitives.{fixed, flagBytes, kept, lengthBytes, minus, nullBytes, w32}
-use Rattle.layout.specs.Rows.{at, stands, standing}
+use Rattle.layout.specs.Rows.{at, end, stands, standing}
 use Rattle.layout.specs.Tables.{arrays, asked, basicOf, chosen, chunks, count, good, goodCells, goodCount, goodRow, goodSpan, kindIn, kindOf, pop, rowWidth, rowsOf, slice, valueOf, width}
 use Rattle.layout.specs.Write.{basicFault, fault, firstOf, or, tooLong, unless, write, writeBasic}
 use Rattle.layout.proofs.Proper.{both}
@@ -38,7 +38,7 @@ use Rattle.ranges.proofs.Lent.{good-one, string-told}
 use Rattle.writers.proofs.Called.{called}
 use Rattle.metadata_request.specs.Answers.{ofCreation}
 use Rattle.metadata_request.specs.declared.Creation.{Creation}
-use Rattle.metadata_request.specs.Shapes.{creationShape, flagOf, lentRows, nameShape, requestShape, setTo, topicsShape}
+use Rattle.metadata_request.specs.Shapes.{creationField, creationShape, nameShape, requestShape, topicsShape}
 
 is-shape : (v : ℕ) → v ≤ 4 → shape request v ≡ requestShape (leb 4 v)
 unfolding shape at stands standing requestRows nameRows
@@ -69,7 +69,7 @@ module _ (size c : ℕ) (topics : List ℕ) where
       own false = and-true (goodCount true c)
 
   abbrev judged : Bool
-  judged = good size 1 (requestShape false) (lentRows c true topics)
+  judged = good size 1 (requestShape false) ((c ∷ 2 ∷ 1 ∷ []) ∷ topics ∷ [])
 
   pub other-count : {k : ℕ} → k ≡ count c → k ≢ length topics / 2 → false ≡ judged
   other-count e h = rows-other c (length topics / 2) (allRanged 2 0 size topics) e h ∙ sym (is-good 2 1)
@@ -94,7 +94,7 @@ creation-clean lent cs false = refl
 
 module _ (lent : List ℕ) (c : ℕ) (topics : List ℕ) where
   abbrev refusal : ℕ
-  refusal = refusalOf lent 1 (requestShape false) (requestShape false) (lentRows c true topics)
+  refusal = refusalOf lent 1 (requestShape false) (requestShape false) ((c ∷ 2 ∷ 1 ∷ []) ∷ topics ∷ [])
 
   fault-is : (f : Bool) (k m : ℕ) → faultAt lent (requestShape f) 0 ((c ∷ k ∷ m ∷ []) ∷ topics ∷ []) ≡ firstOf (rowFault lent nameShape) (chunks (count c) 2 topics)
   unfolding rowWidth width tooLong or
@@ -103,39 +103,39 @@ module _ (lent : List ℕ) (c : ℕ) (topics : List ℕ) where
       names : ℕ
       names = firstOf (rowFault lent nameShape) (chunks (count c) 2 topics)
 
-  module _ (a : Bool) (e : a ≡ good (length lent) 1 (requestShape false) (lentRows c true topics)) where
+  module _ (a : Bool) (e : a ≡ good (length lent) 1 (requestShape false) ((c ∷ 2 ∷ 1 ∷ []) ∷ topics ∷ [])) where
     pub fault-bad : a ≡ false → 13 ≡ refusal
-    fault-bad = refusal-bad lent 1 (requestShape false) (requestShape false) (lentRows c true topics) e
+    fault-bad = refusal-bad lent 1 (requestShape false) (requestShape false) ((c ∷ 2 ∷ 1 ∷ []) ∷ topics ∷ []) e
 
     module _ (h : a ≡ true) where
       pub fault-names : (r : ℕ) → r ≡ rowsFault lent nameShape 2 topics → r ≡ refusal
       unfolding rowsFault rowsOf
-      fault-names r i = refusal-good lent 1 (requestShape false) (requestShape false) (lentRows c true topics) e h r (i ∙ sym (fault-is false 2 1 ∙ ap (λ (j : ℕ). firstOf (rowFault lent nameShape) (chunks j 2 topics)) (good-rows (length lent) c topics (sym e ∙ h))))
+      fault-names r i = refusal-good lent 1 (requestShape false) (requestShape false) ((c ∷ 2 ∷ 1 ∷ []) ∷ topics ∷ []) e h r (i ∙ sym (fault-is false 2 1 ∙ ap (λ (j : ℕ). firstOf (rowFault lent nameShape) (chunks j 2 topics)) (good-rows (length lent) c topics (sym e ∙ h))))
 
   -- no number is given: the count tells the rows
   pub all-told : {e : ℕ} → e ≡ refusal → e ≡ 0 → count c ≡ length topics / 2
-  all-told i h = good-rows (length lent) c topics (refusal-none lent 1 (requestShape false) (requestShape false) (lentRows c true topics) i h)
+  all-told i h = good-rows (length lent) c topics (refusal-none lent 1 (requestShape false) (requestShape false) ((c ∷ 2 ∷ 1 ∷ []) ∷ topics ∷ []) i h)
 
 -- ---- the walk
 
 module _ (lent : List ℕ) (c : ℕ) (topics : List ℕ) (n : count c ≡ length topics / 2) {d d′ : List ℕ} {r : ℕ} where
-  pub asked-null : c ≡ minus → Put (nullBytes (sizeOf Form.Int32)) d r d′ → Capped (bytesAt lent topicsShape 0 ((c ∷ []) ∷ topics ∷ [])) d r d′
+  pub asked-null : c ≡ minus → Put (nullBytes (sizeOf Form.Int32)) d r d′ → Capped (bytesAt lent (topicsShape end) 0 ((c ∷ []) ∷ topics ∷ [])) d r d′
   asked-null h p = capped-as (sym (array-null lent (fixed w32 kept) nameShape 0 1 ((c ∷ []) ∷ topics ∷ []) (eq-eqb c minus h))) (null-put Form.Int32 kept p)
 
-  pub asked-names : c ≢ minus → Capped (countedBytes lent nameShape (fixed w32 kept) 2 topics) d r d′ → Capped (bytesAt lent topicsShape 0 ((c ∷ []) ∷ topics ∷ [])) d r d′
+  pub asked-names : c ≢ minus → Capped (countedBytes lent nameShape (fixed w32 kept) 2 topics) d r d′ → Capped (bytesAt lent (topicsShape end) 0 ((c ∷ []) ∷ topics ∷ [])) d r d′
   unfolding rowWidth width
   asked-names h s = capped-as (sym (all-bytes lent (fixed w32 kept) nameShape 0 1 ((c ∷ []) ∷ topics ∷ []) tt 2 refl (λ u. omega arith) (lit< tt) n (ne-eqb c minus h))) s
 
-module _ (f flag : Bool) where
-  pub creation-there : f ≡ true → {d d′ : List ℕ} {n : ℕ} → Put (flagBytes flag) d n d′ → Capped (rowBytes [] (creationShape f) (setTo flag)) d n d′
-  unfolding rowBytes bytesAt write writeBasic valueOf pop width basicOf chosen
-  creation-there h p = rw h (capped-as (ap flagBytes (is flag) ∙ sym (append-nil _)) (capped (put-step p)))
-    where
-      is : (b : Bool) → b ≡ ltb 0 (cond b 1 0)
-      is true = refl
-      is false = refl
+flag-is : (b : Bool) → b ≡ ltb 0 (cond b 1 0)
+flag-is true = refl
+flag-is false = refl
 
-  pub creation-lacking : f ≡ false → (d : List ℕ) → Capped (rowBytes [] (creationShape f) (setTo flag)) d 0 d
+module _ (f flag : Bool) where
+  pub creation-there : f ≡ true → {d d′ : List ℕ} {n : ℕ} → Put (flagBytes flag) d n d′ → Capped (rowBytes [] (creationShape f) (2 ∷ cond flag 1 0 ∷ [])) d n d′
+  unfolding rowBytes bytesAt write writeBasic valueOf pop width basicOf chosen
+  creation-there h p = rw h (capped-as (ap flagBytes (flag-is flag) ∙ sym (append-nil _)) (capped (put-step p)))
+
+  pub creation-lacking : f ≡ false → (d : List ℕ) → Capped (rowBytes [] (creationShape f) (2 ∷ cond flag 1 0 ∷ [])) d 0 d
   unfolding rowBytes bytesAt write valueOf pop
   creation-lacking h d = rw h (capped (step-nothing d))
 
@@ -145,35 +145,39 @@ unfolding rowBytes bytesAt write writeBasic valueOf pop basicOf
 creation-bytes lent cs true = refl
 creation-bytes lent cs false = refl
 
-request-bytes : (lent : List ℕ) (c : ℕ) (topics : List ℕ) (f : Bool) (cs : List ℕ) → bytesAt lent (requestShape f) 0 ((c ∷ cs) ∷ topics ∷ []) ≡ bytesAt lent topicsShape 0 ((c ∷ []) ∷ topics ∷ []) ++ rowBytes [] (creationShape f) cs
+request-bytes : (lent : List ℕ) (c : ℕ) (topics : List ℕ) (f : Bool) (cs : List ℕ) → bytesAt lent (requestShape f) 0 ((c ∷ cs) ∷ topics ∷ []) ≡ bytesAt lent (topicsShape end) 0 ((c ∷ []) ∷ topics ∷ []) ++ rowBytes [] (creationShape f) cs
 unfolding rowWidth width
-request-bytes lent c topics f cs = then-bytes lent (fixed w32 kept) nameShape tt 2 refl c topics (creationShape f) (creation-flat f) cs ∙ ap (λ (x : List ℕ). bytesAt lent topicsShape 0 ((c ∷ []) ∷ topics ∷ []) ++ x) (creation-bytes lent cs f)
+request-bytes lent c topics f cs = then-bytes lent (fixed w32 kept) nameShape tt 2 refl c topics (creationShape f) (creation-flat f) cs ∙ ap (λ (x : List ℕ). bytesAt lent (topicsShape end) 0 ((c ∷ []) ∷ topics ∷ []) ++ x) (creation-bytes lent cs f)
 
 module _ {d d₁ e : List ℕ} {n m : ℕ} (at : ℕ) (h : at ≡ min n (length d₁)) (r : ℕ) (k : cap r ≡ cap (n + m)) where
   pub array-put : (lent topics : List ℕ) → Put (lengthBytes (sizeOf Form.Int32) (length topics / 2)) d n d₁ → Capped (rowsBytes lent nameShape 2 topics) (midOf at (length d₁ - at) d₁) m e → Capped (countedBytes lent nameShape (fixed w32 kept) 2 topics) d r (putMid at (length d₁ - at) d₁ e)
   array-put lent topics p q = counted-put Form.Int32 kept lent nameShape 2 topics at h r k p q
 
-  pub request-put : (f : Bool) (lent : List ℕ) (c : ℕ) (flag : Bool) (topics : List ℕ) → Capped (bytesAt lent topicsShape 0 ((c ∷ []) ∷ topics ∷ [])) d n d₁ → Capped (rowBytes [] (creationShape f) (setTo flag)) (midOf at (length d₁ - at) d₁) m e →
-      Capped (bytesAt lent (requestShape f) 0 (lentRows c flag topics)) d r (putMid at (length d₁ - at) d₁ e)
-  request-put f lent c flag topics p q = capped-as (sym (request-bytes lent c topics f (setTo flag))) (capped-behind p at h q r k)
+  pub request-put : (f : Bool) (lent : List ℕ) (c : ℕ) (flag : Bool) (topics : List ℕ) → Capped (bytesAt lent (topicsShape end) 0 ((c ∷ []) ∷ topics ∷ [])) d n d₁ → Capped (rowBytes [] (creationShape f) (2 ∷ cond flag 1 0 ∷ [])) (midOf at (length d₁ - at) d₁) m e →
+      Capped (bytesAt lent (requestShape f) 0 ((c ∷ 2 ∷ cond flag 1 0 ∷ []) ∷ topics ∷ [])) d r (putMid at (length d₁ - at) d₁ e)
+  request-put f lent c flag topics p q = capped-as (sym (request-bytes lent c topics f (2 ∷ cond flag 1 0 ∷ []))) (capped-behind p at h q r k)
 
 -- ---- auto-creation, unset or set
 
+abbrev flagOf : Creation → Bool
+flagOf q = basicOf [] creationField (ofCreation q)
+
 module _ (q : Creation) where
   pub flag-unset : q ≡ Creation.Unset → true ≡ flagOf q
+  unfolding basicOf chosen
   flag-unset h = sym (ap flagOf h)
 
   pub flag-set : {b : Bool} → q ≡ Creation.Set b → b ≡ flagOf q
-  flag-set h = sym (ap flagOf h)
+  unfolding basicOf chosen
+  flag-set {b} h = flag-is b ∙ sym (ap flagOf h)
 
 -- ---- the call's promise from that of a known version
 
 -- a row means what is written of it
-row-bytes : (f : Bool) (q : Creation) → rowBytes [] (creationShape f) (ofCreation q) ≡ rowBytes [] (creationShape f) (setTo (flagOf q))
+row-bytes : (f : Bool) (q : Creation) → rowBytes [] (creationShape f) (ofCreation q) ≡ rowBytes [] (creationShape f) (2 ∷ cond (flagOf q) 1 0 ∷ [])
 unfolding rowBytes bytesAt write valueOf pop width basicOf chosen
 row-bytes true Creation.Unset = refl
-row-bytes true (Creation.Set true) = refl
-row-bytes true (Creation.Set false) = refl
+row-bytes true (Creation.Set b) = ap (λ (x : Bool). rowBytes [] (creationShape true) (2 ∷ cond x 1 0 ∷ [])) (flag-is b)
 row-bytes false q = refl
 
 row-refusal : (lent : List ℕ) (c : ℕ) (topics : List ℕ) (f : Bool) (k m : ℕ) → refusalOf lent 1 (requestShape false) (requestShape f) ((c ∷ k ∷ m ∷ []) ∷ topics ∷ []) ≡ refusal lent c topics
@@ -181,12 +185,11 @@ unfolding refusalOf
 row-refusal lent c topics f k m = λ t. cond ((is-good (length lent) c topics k m ∙ sym (is-good (length lent) c topics 2 1)) t) ((fault-is lent c topics f k m ∙ sym (fault-is lent c topics false 2 1)) t) 13
 
 pub request-written : (lent : List ℕ) (c : ℕ) (topics out : List ℕ) (v : ℕ) → v ≤ 4 → (q : Creation) (z : ℤ) → v ≡ versionOf z → (flag : Bool) → flag ≡ flagOf q → (r : Answer × List ℕ) →
-    r ≡ writeAlone (refusal lent c topics) (bytesAt lent (requestShape (leb 4 v)) 0 (lentRows c flag topics)) out → r ≡ writeAnswer request z lent ((c ∷ ofCreation q) ∷ topics ∷ []) out
+    r ≡ writeAlone (refusal lent c topics) (bytesAt lent (requestShape (leb 4 v)) 0 ((c ∷ 2 ∷ cond flag 1 0 ∷ []) ∷ topics ∷ [])) out → r ≡ writeAnswer request z lent ((c ∷ ofCreation q) ∷ topics ∷ []) out
 request-written lent c topics out v h q z e flag j r w =
     called request z v e h (omega arith) lent ((c ∷ ofCreation q) ∷ topics ∷ []) out r _ _ w (rw (is-shape v h, is-shape 0 (omega arith)) (refusals q))
-    (λ g. rw (is-shape v h) (request-bytes lent c topics (leb 4 v) (ofCreation q) ∙ ap (λ (x : List ℕ). bytesAt lent topicsShape 0 ((c ∷ []) ∷ topics ∷ []) ++ x) (row-bytes (leb 4 v) q ∙ ap (λ (b : Bool). rowBytes [] (creationShape (leb 4 v)) (setTo b)) (sym j)) ∙ sym (request-bytes lent c topics (leb 4 v) (setTo flag))))
+    (λ g. rw (is-shape v h) (request-bytes lent c topics (leb 4 v) (ofCreation q) ∙ ap (λ (x : List ℕ). bytesAt lent (topicsShape end) 0 ((c ∷ []) ∷ topics ∷ []) ++ x) (row-bytes (leb 4 v) q ∙ ap (λ (b : Bool). rowBytes [] (creationShape (leb 4 v)) (2 ∷ cond b 1 0 ∷ [])) (sym j)) ∙ sym (request-bytes lent c topics (leb 4 v) (2 ∷ cond flag 1 0 ∷ []))))
   where
     refusals : (q : Creation) → refusalOf lent 1 (requestShape false) (requestShape (leb 4 v)) ((c ∷ ofCreation q) ∷ topics ∷ []) ≡ refusal lent c topics
     refusals Creation.Unset = row-refusal lent c topics (leb 4 v) 0 0
-    refusals (Creation.Set true) = row-refusal lent c topics (leb 4 v) 2 1
-    refusals (Creation.Set false) = row-refusal lent c topics (leb 4 v) 2 0
+    refusals (Creation.Set flag) = row-refusal lent c topics (leb 4 v) 2 (cond flag 1 0)

@@ -1,5 +1,5 @@
 // The body of a Metadata request, versions 0 to 4: an array of names, or null, and from version 4 on whether topics may be created.
-ghost use mathlib.Core.Bool.{false, true};
+ghost use mathlib.Core.Bool.{cond, false};
 ghost use mathlib.Core.Path.{_≡_};
 ghost use mathlib.Core.List.{[], _∷_};
 ghost use lib.ListN.{getD, length};
@@ -7,13 +7,14 @@ ghost use Prim.Native.Nat.{_/_, _<_};
 ghost use Rattle.layout.specs.Answers.{writeAlone, writeAnswer};
 ghost use Rattle.layout.specs.Messages.Metadata as Meta;
 ghost use Rattle.layout.specs.Primitives.{fixed, kept, w32};
+ghost use Rattle.layout.specs.Rows as Rows;
 ghost use Rattle.layout.specs.Tables as Tables;
 ghost use Rattle.layout.specs.Tables.{rowsOf};
 ghost use Rattle.rows.specs.Step.{Capped};
 ghost use Rattle.rows.specs.Writes.{bytesAt, countedBytes, refusalOf, rowBytes, rowsBytes};
 ghost use Rattle.writers.specs.Answers.{replied};
-ghost use Rattle.metadata_request.specs.Answers.{ofRequest};
-ghost use Rattle.metadata_request.specs.Shapes.{creationShape, flagOf, lentRows, nameShape, requestShape, setTo, topicsShape};
+ghost use Rattle.metadata_request.specs.Answers.{ofCreation, ofRequest};
+ghost use Rattle.metadata_request.specs.Shapes.{creationField, creationShape, nameShape, requestShape, topicsShape};
 use crate::Creation;
 use crate::RequestBody;
 use crate::judge::refusal;
@@ -69,7 +70,7 @@ fn array(out: &mut [u8], lent: &[u8], topics: &[u64]) -> usize
 // A count of -1 is null, which is not the same as no names.
 fn asked(out: &mut [u8], lent: &[u8], count: u64, topics: &[u64]) -> usize
     requires { ⌜ Tables.count count ≡ length (now topics) / 2 ⌝ }
-    ensures { λ r. ⌜ Capped (bytesAt (now (lent .entry)) topicsShape 0 ((count ∷ []) ∷ now (topics .entry) ∷ [])) (now (out .entry)) r (now (out .exit)) ⌝ }
+    ensures { λ r. ⌜ Capped (bytesAt (now (lent .entry)) (topicsShape Rows.end) 0 ((count ∷ []) ∷ now (topics .entry) ∷ [])) (now (out .entry)) r (now (out .exit)) ⌝ }
 {
     if count == 18446744073709551615 {
         return put::null(out, Form::Int32);
@@ -79,7 +80,7 @@ fn asked(out: &mut [u8], lent: &[u8], count: u64, topics: &[u64]) -> usize
 
 // Auto-creation, where the version has it.
 fn creation(out: &mut [u8], has: bool, flag: bool) -> usize
-    ensures { λ r. ⌜ Capped (rowBytes [] (creationShape has) (setTo flag)) (now (out .entry)) r (now (out .exit)) ⌝ }
+    ensures { λ r. ⌜ Capped (rowBytes [] (creationShape has) (2 ∷ cond flag 1 0 ∷ [])) (now (out .entry)) r (now (out .exit)) ⌝ }
 {
     if has {
         return put::boolean(out, flag);
@@ -89,7 +90,7 @@ fn creation(out: &mut [u8], has: bool, flag: bool) -> usize
 
 fn body(out: &mut [u8], has: bool, lent: &[u8], count: u64, flag: bool, topics: &[u64]) -> usize
     requires { ⌜ Tables.count count ≡ length (now topics) / 2 ⌝ }
-    ensures { λ r. ⌜ Capped (bytesAt (now (lent .entry)) (requestShape has) 0 (lentRows count flag (now (topics .entry)))) (now (out .entry)) r (now (out .exit)) ⌝ }
+    ensures { λ r. ⌜ Capped (bytesAt (now (lent .entry)) (requestShape has) 0 ((count ∷ 2 ∷ cond flag 1 0 ∷ []) ∷ now (topics .entry) ∷ [])) (now (out .entry)) r (now (out .exit)) ⌝ }
 {
     let a = asked(out, lent, count, topics);
     let p = put::behind(a, out.len());
@@ -108,7 +109,7 @@ fn written(
     flag: bool,
     topics: &[u64],
 ) -> Written
-    ensures { λ r. ⌜ replied r (now (out .exit)) ≡ writeAlone (refusalOf (now (lent .entry)) 1 (requestShape false) (requestShape false) (lentRows count true (now (topics .entry)))) (bytesAt (now (lent .entry)) (requestShape has) 0 (lentRows count flag (now (topics .entry)))) (now (out .entry)) ⌝ }
+    ensures { λ r. ⌜ replied r (now (out .exit)) ≡ writeAlone (refusalOf (now (lent .entry)) 1 (requestShape false) (requestShape false) ((count ∷ 2 ∷ 1 ∷ []) ∷ now (topics .entry) ∷ [])) (bytesAt (now (lent .entry)) (requestShape has) 0 ((count ∷ 2 ∷ cond flag 1 0 ∷ []) ∷ now (topics .entry) ∷ [])) (now (out .entry)) ⌝ }
 {
     let e = refusal(lent, count, topics);
     if e != 0 {
@@ -127,7 +128,7 @@ fn written(
 
 // Unset, the broker may create topics.
 fn is_allowed(creation: Creation) -> bool
-    ensures { λ r. ⌜ r ≡ flagOf creation ⌝ }
+    ensures { λ r. ⌜ r ≡ Tables.basicOf [] creationField (ofCreation creation) ⌝ }
 {
     match creation {
         Creation::Unset => true,

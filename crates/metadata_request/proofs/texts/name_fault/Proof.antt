@@ -4,12 +4,9 @@ use borrow.Author.Needs.{needs}
 use Rattle.metadata_request.proofs.texts.name_fault.Statement.{statement}
 use Rattle.metadata_request.proofs.texts.name_fault.Tie as tie
 
-returns : tie.Need-returns
-returns c = search (needs, name-told)
-
 pub name-fault-spec : {M : Type 1} → statement M
 name-fault-spec =
     tie.close
     (tie.spec
     (λ c. search needs) (λ c. search needs) (λ c. search needs) (λ c. search needs) (λ c. search needs) (λ c. search needs) (λ c. search needs)
-    (λ c κs. search needs) (λ c κs. search needs) returns)
+    (λ c κs. search needs) (λ c κs. search needs) (λ c. search (needs, name-told)))

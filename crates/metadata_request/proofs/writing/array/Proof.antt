@@ -4,12 +4,9 @@ use borrow.Author.Needs.{needs}
 use Rattle.metadata_request.proofs.writing.array.Statement.{statement}
 use Rattle.metadata_request.proofs.writing.array.Tie as tie
 
-returns : tie.Need-returns
-returns c = search (needs, array-put)
-
 pub array-spec : {M : Type 1} → statement M
 array-spec =
     tie.close
     (tie.spec
     (λ c κs. search needs) (λ c κs. search needs) (λ c. search needs) (λ c. search needs) (λ c. search needs) (λ c κs. search needs)
-    (λ c κs. search needs) (λ c. search needs) returns)
+    (λ c κs. search needs) (λ c. search needs) (λ c. search (needs, array-put)))

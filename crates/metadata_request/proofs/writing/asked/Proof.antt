@@ -4,13 +4,7 @@ use borrow.Author.Needs.{needs}
 use Rattle.metadata_request.proofs.writing.asked.Statement.{statement}
 use Rattle.metadata_request.proofs.writing.asked.Tie as tie
 
-returns : tie.Need-returns
-returns c = search (needs, asked-null)
-
-returns-2 : tie.Need-returns-2
-returns-2 c = search (needs, asked-names)
-
 pub asked-spec : {M : Type 1} → statement M
 asked-spec =
     tie.close (tie.spec
-    (λ c κs. search needs) (λ c. search needs) returns (λ c κs. search needs) (λ c. search needs) returns-2)
+    (λ c κs. search needs) (λ c. search needs) (λ c. search (needs, asked-null)) (λ c κs. search needs) (λ c. search needs) (λ c. search (needs, asked-names)))

@@ -4,12 +4,9 @@ use borrow.Author.Needs.{needs}
 use Rattle.metadata_request.proofs.writing.body.Statement.{statement}
 use Rattle.metadata_request.proofs.writing.body.Tie as tie
 
-returns : tie.Need-returns
-returns c = search (needs, request-put)
-
 pub body-spec : {M : Type 1} → statement M
 body-spec =
     tie.close
     (tie.spec
     (λ c κs. search needs) (λ c κs. search needs) (λ c. search needs) (λ c. search needs) (λ c. search needs) (λ c κs. search needs)
-    (λ c κs. search needs) (λ c. search needs) returns)
+    (λ c κs. search needs) (λ c. search needs) (λ c. search (needs, request-put)))

@@ -4,12 +4,9 @@ use borrow.Author.Needs.{needs}
 use Rattle.metadata_request.proofs.writing.name.Statement.{statement}
 use Rattle.metadata_request.proofs.writing.name.Tie as tie
 
-returns : tie.Need-returns
-returns c = search (needs, name-put)
-
 pub name-spec : {M : Type 1} → statement M
 name-spec =
     tie.close
     (tie.spec
     (λ c. search needs) (λ c. search needs) (λ c. search needs) (λ c. search needs) (λ c. search needs) (λ c. search needs) (λ c. search needs)
-    (λ c κs. search needs) (λ c κs. search needs) (λ c. search needs) returns)
+    (λ c κs. search needs) (λ c κs. search needs) (λ c. search needs) (λ c. search (needs, name-put)))
