@@ -36,10 +36,7 @@ wide-holds n h = go (ltb n (2 ^ 63)) refl
     go false e = rw (e, le-true (2 ^ 63) n (of-ge n (2 ^ 63) e), lt-true n (2 ^ 64) h)
 
 -- 11 or none
-abbrev pub rowHolds : List ℕ → Bool
-rowHolds r = holds w32 (getD r 0 0) && (holds w64 (getD r 1 0) && holds w32 (getD r 2 0))
-
-pub partition-fault : (r : List ℕ) → rowFault [] partitionShape r ≡ unless (rowHolds r) 11
+pub partition-fault : (r : List ℕ) → rowFault [] partitionShape r ≡ unless (holds w32 (getD r 0 0) && (holds w64 (getD r 1 0) && holds w32 (getD r 2 0))) 11
 unfolding rowFault faultAt fault basicFault valueOf pop width basicOf
 partition-fault [] = or-three (holds w32 0) (holds w64 0) (holds w32 0) 10
 partition-fault (a ∷ []) = or-three (holds w32 a) (holds w64 0) (holds w32 0) 10
@@ -59,7 +56,7 @@ module _ (partitions : List ℕ) (cells : Cells partitions) where
     partition-told b e =
         e
         ∙ sym (λ t. holds w32 ((row-cell 3 partitions i h 0 (lit< tt) ∙ ap (λ (k : ℕ). getD partitions k 0) (add-zero (i * 3))) t) && holds w32 (row-cell 3 partitions i h 2 (lit< tt) t))
-        ∙ sym (ap (λ (n : ℕ). eqb n 0) (partition-fault row) ∙ none-is (rowHolds row) 10 ∙ rw (wide-holds (getD row 1 0) (omega (arith, row-cell 3 partitions i h 1 (lit< tt), cells (i * 3 + 1)))) refl)
+        ∙ sym (ap (λ (n : ℕ). eqb n 0) (partition-fault row) ∙ none-is _ 10 ∙ rw (wide-holds (getD row 1 0) (omega (arith, row-cell 3 partitions i h 1 (lit< tt), cells (i * 3 + 1)))) refl)
 
     -- what is small fits
     small-held : (n : ℕ) → ltb n 2147483648 ≡ true → holds w32 n ≡ true

@@ -16,7 +16,7 @@ use Rattle.rows.proofs.Turns.{or-first, or-second}
 use Rattle.put.proofs.Rows.{stringShape}
 use Rattle.ranges.specs.Asked.{stringFault}
 use Rattle.ranges.proofs.Lent.{string-fault}
-use Rattle.fetch_request.proofs.Fits.{partition-fault, rowHolds}
+use Rattle.fetch_request.proofs.Fits.{partition-fault}
 use Rattle.fetch_request.proofs.Walk.{named, three}
 use Rattle.fetch_request.specs.Shapes.{partitionShape, topicShape}
 
@@ -55,7 +55,7 @@ module _ (lent topics partitions : List ℕ) (enough : takes 3 2 topics ≤ leng
       pub topic-partitions : unless b 11 ≡ topicFault
       topic-partitions =
           ap (λ (t : Bool). unless t 11) i
-          ∙ sym (rows-only [] partitionShape 3 (take k partitions) rowHolds 10 partition-fault)
+          ∙ sym (rows-only [] partitionShape 3 (take k partitions) _ 10 partition-fault)
           ∙ ap taken q
           ∙ or-second (stringFault (slice lent (getD topics 0 0, getD topics 1 0))) _ e text-told h
           ∙ sym is-fault
