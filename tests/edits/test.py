@@ -1,5 +1,5 @@
 #!/usr/bin/env python3
-"""Tests tools/edits: a copy of a small crate is given the edits of this folder, most of which are no wrong answers, and each must be reported for what it is."""
+"""Tests tools/edits: a copy of a crate is given the edits of this folder, most of which are no wrong answers, and each must be reported for what it is."""
 import os
 import shutil
 import subprocess
@@ -8,15 +8,15 @@ import tempfile
 
 HERE = os.path.dirname(os.path.abspath(__file__))
 ROOT = os.path.dirname(os.path.dirname(HERE))
-CRATE, BELOW = "walks", ["layout", "rows", "primitives"]
+CRATE, BELOW = "body_reading", ["layout", "utf8", "primitives"]
 EXPECTED = {
     "wrong": "refused",
     "comment": "NOT REFUSED",
     "name_gone": "UNFIT",
     "shape_gone": "UNFIT",
     "no_code": "BAD EDIT: it did not reach the prover",
-    "text_twice": "BAD EDIT: a text that it replaces stands in src/lib.rt more than once",
-    "text_nowhere": "BAD EDIT: a text that it replaces stands in src/lib.rt nowhere",
+    "text_twice": "BAD EDIT: a text that it replaces stands in src/walks.rt more than once",
+    "text_nowhere": "BAD EDIT: a text that it replaces stands in src/walks.rt nowhere",
     "no_file": "BAD EDIT: there is no src/walk.rt",
     "no_file_named": "BAD EDIT: it names no file",
     "file_of_another_crate": "BAD EDIT: it names no file",

@@ -74,7 +74,7 @@ class RattleFile:
         path = path.strip().split("::")
         self.uses[other.strip() or path[-1]] = path
         if mark:
-            self.passed[path[-1]] = path
+            self.passed[path[-1]] = path[1:] if path[0] == "crate" else path
 
     def line(self, at):
         return self.text.count("\n", 0, at) + 1

@@ -16,12 +16,12 @@ use Rattle.layout.proofs.Local.{not-ok}
 use Rattle.layout.proofs.Proper.{api-request}
 use Rattle.primitives.specs.Answers.{noRoom, ofRefusal}
 use Rattle.primitives.specs.declared.Refusal as Code
-use Rattle.rows.specs.Store.{State, own, tab}
-use Rattle.rows.specs.Walk.{on, walk}
-use Rattle.rows.proofs.Bound.{lean, slim, taken}
-use Rattle.rows.proofs.Close.{slices}
-use Rattle.rows.proofs.OneTable.{one-needs, one-no, one-took}
-use Rattle.rows.proofs.Reply.{answers-long}
+use Rattle.body_reading.specs.Store.{State, own, tab}
+use Rattle.body_reading.specs.Walk.{on, walk}
+use Rattle.body_reading.proofs.Bound.{lean, slim, taken}
+use Rattle.body_reading.proofs.Close.{slices}
+use Rattle.body_reading.proofs.OneTable.{one-needs, one-no, one-took}
+use Rattle.body_reading.proofs.Reply.{answers-long}
 use Rattle.api_versions_request.specs.Answers.{ofRequest}
 use Rattle.api_versions_request.specs.Walks.{ofRequestWalked}
 use Rattle.primitives.specs.Answers.{versionOf}

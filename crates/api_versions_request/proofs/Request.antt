@@ -18,21 +18,21 @@ use Rattle.layout.specs.Utf8.{utf8}
 use Rattle.layout.specs.Write.{basicFault, fault, or, sizedFault, tooLong, unless, write, writeBasic}
 use Rattle.layout.proofs.Proper.{both}
 use Rattle.layout.proofs.Tests.{lt-true}
-use Rattle.rows.specs.Step.{Capped, cap}
-use Rattle.rows.specs.Tagged.{tagShape, tagsShape}
-use Rattle.rows.specs.Writes.{bytesAt, countedBytes, faultAt, refusalOf}
-use Rattle.rows.proofs.Capped.{capped, capped-as, capped-behind, capped-there}
-use Rattle.rows.proofs.Faults.{or-none, or-unless}
-use Rattle.rows.proofs.Writes.{joined-bytes, joined-fault, refusal-bad, refusal-good, refusal-none}
+use Rattle.primitives_put.specs.Step.{Capped, cap}
+use Rattle.body_reading.specs.Tagged.{tagShape, tagsShape}
+use Rattle.body_writing.specs.Writes.{bytesAt, countedBytes, faultAt, refusalOf}
+use Rattle.primitives_put.proofs.Capped.{capped, capped-as, capped-behind, capped-there}
+use Rattle.body_writing.proofs.Faults.{or-none, or-unless}
+use Rattle.body_writing.proofs.Writes.{joined-bytes, joined-fault, refusal-bad, refusal-good, refusal-none}
 use Rattle.primitives.specs.Answers.{versionOf}
-use Rattle.put.specs.declared.Form.{Form}
-use Rattle.put.specs.Put.{Put, behindLength, sizeOf}
-use Rattle.put.proofs.Stored.{put-step}
-use Rattle.ranges.specs.Asked.{allRanged}
-use Rattle.ranges.proofs.Cells.{Cells}
-use Rattle.ranges.proofs.Lent.{good-one}
-use Rattle.tags_written.proofs.Tags as Tags
-use Rattle.writers.proofs.Called.{called}
+use Rattle.primitives_put.specs.declared.Form.{Form}
+use Rattle.primitives_put.specs.Put.{Put, behindLength, sizeOf}
+use Rattle.primitives_put.proofs.Stored.{put-step}
+use Rattle.body_writing.specs.Asked.{allRanged}
+use Rattle.body_writing.proofs.Cells.{Cells}
+use Rattle.body_writing.proofs.Lent.{good-one}
+use Rattle.tagged_fields.proofs.Tags as Tags
+use Rattle.body_writing.proofs.Called.{called}
 use Rattle.api_versions_request.specs.Answers.{ofText}
 use Rattle.api_versions_request.specs.declared.Text.{Text}
 use Rattle.api_versions_request.specs.Shapes.{requestShape, textField, textsShape}

@@ -15,14 +15,14 @@ use Rattle.layout.specs.Messages.ApiVersions.{requestRows}
 use Rattle.layout.proofs.Tests.{le-false}
 use Rattle.primitives.specs.Answers.{ofRefusal}
 use Rattle.primitives.specs.declared.Refusal as Code
-use Rattle.rows.specs.Store.{State, Tab, add, own, put, store, tab}
-use Rattle.rows.specs.Tagged.{tagsShape}
-use Rattle.rows.specs.Walk.{Runs, on, walk}
-use Rattle.rows.proofs.Arrays.{row-end}
-use Rattle.rows.proofs.OneTable.{alone}
-use Rattle.rows.proofs.Fields.{field-no, field-took}
-use Rattle.tags.specs.Answers.{inTables, inTablesIs}
-use Rattle.tags.specs.declared.Walked.{Walked}
+use Rattle.body_reading.specs.Store.{State, Tab, add, own, put, store, tab}
+use Rattle.body_reading.specs.Tagged.{tagsShape}
+use Rattle.body_reading.specs.Walk.{Runs, on, walk}
+use Rattle.body_reading.proofs.Arrays.{row-end}
+use Rattle.body_reading.proofs.OneTable.{alone}
+use Rattle.body_reading.proofs.Fields.{field-no, field-took}
+use Rattle.tagged_fields.specs.Read.{inTables, inTablesIs}
+use Rattle.tagged_fields.specs.declared.reading.Walked.{Walked}
 
 abbrev start : List ℕ → List ℕ → State
 start l row = own row ∷ tab l 0 ∷ []

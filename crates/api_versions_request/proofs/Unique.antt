@@ -1,4 +1,4 @@
--- The promise of `request::read` determines the reply and the table.
+-- The promises of `read` and `write` determine the reply, with the table or the output.
 use mathlib.Core.List.{List, [], _++_, _∷_}
 use mathlib.Core.Path.{_≡_, ap, refl}
 use lib.IntN.{ℤ}
@@ -7,9 +7,9 @@ use lib.ListN.{getD}
 use Rattle.layout.specs.Tables.{Tables}
 use Rattle.layout.specs.Answers.{Answer, accepted, refused, writeAnswer}
 use Rattle.layout.specs.Messages.ApiVersions as Api
-use Rattle.writers.specs.Answers.{replied}
-use Rattle.writers.specs.declared.Written.{Written}
-use Rattle.writers.proofs.Unique.{written-unique}
+use Rattle.primitives_put.specs.Answers.{replied}
+use Rattle.primitives_put.specs.declared.Written.{Written}
+use Rattle.primitives_put.proofs.Unique.{written-unique}
 use Rattle.primitives.proofs.Unique.{refusalOf, unique}
 use Rattle.api_versions_request.specs.Answers.{ofRequest, ofRequestReply, ofText}
 use Rattle.api_versions_request.specs.declared.Text.{Text}

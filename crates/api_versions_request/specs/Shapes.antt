@@ -2,7 +2,7 @@
 use mathlib.Core.Bool.{Bool, false, true}
 use mathlib.Core.List.{[], _∷_}
 use Rattle.layout.specs.Rows.{Basic, Shape, absent, field, maybe, string}
-use Rattle.rows.specs.Tagged.{tagsShape}
+use Rattle.body_reading.specs.Tagged.{tagsShape}
 
 -- a text: an unset one is written as an empty one
 abbrev pub textField : Bool → Basic

@@ -3,7 +3,7 @@ use mathlib.Core.List.{List, [], _∷_}
 use Prim.Native.Nat.{ℕ}
 use Rattle.layout.specs.Reading.{Res, bad, ok}
 use Rattle.primitives.specs.Answers.{ofRefusal}
-use Rattle.rows.specs.Store.{State, own, tab}
+use Rattle.body_reading.specs.Store.{State, own, tab}
 use Rattle.api_versions_request.specs.Answers.{ofRequest}
 use Rattle.api_versions_request.specs.declared.reading.RequestWalked.{RequestWalked}
 

@@ -9,14 +9,16 @@ ghost use Rattle.layout.specs.Rows as Rows;
 ghost use Rattle.layout.specs.Tables.{basicOf, good, goodCells};
 ghost use Rattle.layout.specs.Utf8 as Utf8;
 ghost use Rattle.layout.specs.Write as Write;
-ghost use Rattle.rows.specs.Step.{Capped};
-ghost use Rattle.rows.specs.Tagged.{tagShape};
-ghost use Rattle.rows.specs.Writes.{bytesAt, countedBytes, refusalOf};
-ghost use Rattle.writers.specs.Answers.{replied};
+ghost use Rattle.primitives_put.specs.Step.{Capped};
+ghost use Rattle.body_reading.specs.Tagged.{tagShape};
+ghost use Rattle.body_writing.specs.Writes.{bytesAt, countedBytes, refusalOf};
+ghost use Rattle.primitives_put.specs.Answers.{replied};
 ghost use Rattle.api_versions_request.specs.Answers.{ofRequest, ofText};
 ghost use Rattle.api_versions_request.specs.Shapes.{requestShape, textField, textsShape};
 use crate::RequestBody;
 use crate::Text;
+use body_writing::ranges::is_inside;
+use body_writing::ranges::part;
 use primitives::BAD_TABLES;
 use primitives::MOST;
 use primitives::NO_VERSION;
@@ -25,11 +27,9 @@ use primitives::TOO_LONG;
 use primitives::at;
 use primitives::no_room;
 use primitives::version_of;
-use put::Form;
-use ranges::is_inside;
-use ranges::part;
-use tags_written::tag_buffer;
-use writers::Written;
+use primitives_put::Form;
+use primitives_put::Written;
+use tagged_fields::writing::tag_buffer;
 
 // The bytes of a text: none where it is unset.
 fn bytes_of(lent: &[u8], t: Text) -> &[u8]
@@ -61,7 +61,7 @@ fn is_good(size: usize, name: Text, version: Text, own: u64, tags: &[u64]) -> bo
     if !is_ranged(size, version) {
         return false;
     }
-    tags_written::is_good(size, own, tags)
+    tagged_fields::writing::is_good(size, own, tags)
 }
 
 fn are_texts(flexible: bool, name: &[u8], version: &[u8]) -> bool
@@ -94,10 +94,10 @@ fn refusal(flexible: bool, lent: &[u8], name: Text, version: Text, own: u64, tag
 fn texts(out: &mut [u8], name: &[u8], version: &[u8]) -> usize
     ensures { λ r. ⌜ Capped (Write.write (textsShape Rows.end) (now (name .entry), (now (version .entry), tt))) (now (out .entry)) r (now (out .exit)) ⌝ }
 {
-    let a = put::sized(out, Form::Compact, name);
-    let p = put::behind(a, out.len());
-    let b = put::sized(&mut out[p..], Form::Compact, version);
-    put::add(a, b)
+    let a = primitives_put::sized(out, Form::Compact, name);
+    let p = primitives_put::behind(a, out.len());
+    let b = primitives_put::sized(&mut out[p..], Form::Compact, version);
+    primitives_put::add(a, b)
 }
 
 fn body(
@@ -114,9 +114,9 @@ fn body(
         return 0;
     }
     let a = texts(out, name, version);
-    let p = put::behind(a, out.len());
+    let p = primitives_put::behind(a, out.len());
     let b = tag_buffer(&mut out[p..], lent, tags);
-    put::add(a, b)
+    primitives_put::add(a, b)
 }
 
 // ---- the call

@@ -18,9 +18,9 @@ use Rattle.layout.specs.Tables.{Tables, readRows}
 use Rattle.layout.specs.Write.{basicFault, unless}
 use Rattle.layout.specs.Answers.{Answer, accepted, alone, most, offered, refused, stored, writeAlone}
 use Rattle.layout.proofs.Refusals.{Told, tells-rows}
-use Rattle.fields.specs.Answers.{counted}
-use Rattle.writers.specs.Answers.{countFault}
-use Rattle.kinds.specs.Kinds.{Primitive, blob, boolean, count, given, integer, kinds, readIf, readKind, readOf, shown, text, unsigned, varint, varlong, writeIf, writeKind, writeOf}
+use Rattle.primitives.specs.Parts.{counted}
+use Rattle.primitives_put.specs.Answers.{countFault}
+use Rattle.gateway_primitives.specs.Kinds.{Primitive, blob, boolean, count, given, integer, kinds, readIf, readKind, readOf, shown, text, unsigned, varint, varlong, writeIf, writeKind, writeOf}
 use Rattle.demands.specs.Refusals.{Answered, Fair}
 use Rattle.demands.proofs.Faults.{at-zero, basic-most, unless-most, stored-answered}
 

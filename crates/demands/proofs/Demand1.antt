@@ -18,7 +18,7 @@ use Rattle.layout.specs.Messages.Fetch as Fetch
 use Rattle.layout.specs.Messages.Metadata as Metadata
 use Rattle.layout.proofs.Looked.{lookup-tells}
 use Rattle.layout.proofs.Refusals.{Refuses, seen-refuses}
-use Rattle.kinds.specs.Kinds.{readKind, writeKind}
+use Rattle.gateway_primitives.specs.Kinds.{readKind, writeKind}
 use Rattle.primitives.specs.Answers.{isSet}
 use Rattle.gateway.specs.Replies.{numbers, told}
 use Rattle.gateway_primitives.specs.Replies.{primitiveNumbers, tagsNumbers}

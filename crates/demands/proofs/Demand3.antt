@@ -1,4 +1,4 @@
--- The mission's third demand, of the calls: whatever replies and outputs the promises of `response::write` and `response::read_whole` allow.
+-- The mission's third demand, of the calls: whatever replies and outputs the promises of `write` and `read_whole` of `api_versions_response` allow.
 -- "Take any ApiVersions response body of at most 1,048,576 bytes. Of the three layouts (version 0; versions 1 and 2; version 3), at most one accepts it read whole.
 -- A value that the writer accepted at some version is accepted whole at that version, into tables with room, and comes back, with fields that version lacks absent
 -- and unset ones at their defaults; the other two layouts refuse it."
@@ -29,12 +29,12 @@ use Rattle.layout.proofs.Proper.{api-response, both, owed}
 use Rattle.layout.proofs.Returned as Returned
 use Rattle.layout.proofs.Returned.{api-response-follows, responseTables}
 use Rattle.layout.proofs.Tests.{le-true}
-use Rattle.writers.specs.declared.Written.{Written}
-use Rattle.api_versions.specs.Answers.{ofResponse}
-use Rattle.api_versions.specs.declared.ResponseBody.{ResponseBody}
-use Rattle.api_versions.specs.declared.ResponseReply.{ResponseReply}
-use Rattle.api_versions.proofs.FearedNight.{one-layout}
-use Rattle.api_versions.proofs.Unique.{response-unique, said}
+use Rattle.primitives_put.specs.declared.Written.{Written}
+use Rattle.api_versions_response.specs.Answers.{ofResponse}
+use Rattle.api_versions_response.specs.declared.ResponseBody.{ResponseBody}
+use Rattle.api_versions_response.specs.declared.ResponseReply.{ResponseReply}
+use Rattle.api_versions_response.proofs.FearedNight.{one-layout}
+use Rattle.api_versions_response.proofs.Unique.{response-unique, said}
 use Rattle.demands.specs.Returned.{bodyBack, itemBack, joined, onto, tagShown, tagsKept}
 use Rattle.demands.specs.Responses.{Accepts, CameBack, Pair, Refuses, Room, WholeRead, Writes, layout}
 use Rattle.demands.proofs.Numbers.{item-back, item-settled, nums, own-back, own-settled, tag-settled, tag-shown, tagOf, widths-are}

@@ -6,7 +6,7 @@ pub mod Demand1
 pub mod Demand2
 -- rows of an ApiVersions response in numbers
 pub mod Numbers
--- the third demand, of the calls `response::write` and `response::read_whole`
+-- the third demand, of the calls that write and read whole an ApiVersions response
 pub mod Demand3
 -- what comes back of requests
 pub mod Requests

@@ -12,8 +12,8 @@ use Rattle.layout.specs.Tables.{arrays, kindIn, kindOf, rowWidth, width}
 use Rattle.layout.specs.Answers.{shape}
 use Rattle.layout.specs.Messages.ApiVersions as Api
 use Rattle.layout.specs.Settled.{Shown, gone, goneCount, num, part, settledCells, settledCount, settledRow, settledSpan, shownCells, shownRow, shownSpan}
-use Rattle.versioned.specs.Cells.{versionedCells}
-use Rattle.versioned.specs.declared.Versioned.{Versioned}
+use Rattle.body_reading.specs.Cells.{versionedCells}
+use Rattle.body_reading.specs.declared.versioned.Versioned.{Versioned}
 use Rattle.demands.specs.Returned.{itemBack, tagShown, tagsBack, throttleBack}
 
 abbrev pub numOf : Shown → ℕ

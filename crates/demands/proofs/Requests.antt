@@ -19,10 +19,10 @@ use Rattle.layout.specs.Settled.{Back, Shown, allTables, gone, goneCount, num, 
 use Rattle.layout.proofs.Proper as Proper
 use Rattle.layout.proofs.Returned as Returned
 use Rattle.layout.proofs.Returned.{api-request-follows, fetch-request-follows, metadata-request-follows}
-use Rattle.writers.specs.Answers.{replied}
-use Rattle.writers.specs.declared.Written.{Written}
-use Rattle.versioned.specs.Cells.{versionedCells}
-use Rattle.versioned.specs.declared.Versioned.{Versioned}
+use Rattle.primitives_put.specs.Answers.{replied}
+use Rattle.primitives_put.specs.declared.Written.{Written}
+use Rattle.body_reading.specs.Cells.{versionedCells}
+use Rattle.body_reading.specs.declared.versioned.Versioned.{Versioned}
 use Rattle.api_versions_request.specs.Answers as ApiRow
 use Rattle.api_versions_request.specs.declared.RequestBody as ApiBody
 use Rattle.api_versions_request.specs.declared.Text.{Text}

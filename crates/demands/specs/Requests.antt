@@ -10,7 +10,7 @@ use Rattle.layout.specs.Primitives.{minus}
 use Rattle.layout.specs.Tables.{slice}
 use Rattle.layout.specs.Answers.{Message, shape}
 use Rattle.layout.specs.Settled.{Back, Shown, num, part, shownRow}
-use Rattle.versioned.specs.declared.Versioned.{Versioned}
+use Rattle.body_reading.specs.declared.versioned.Versioned.{Versioned}
 use Rattle.api_versions_request.specs.declared.RequestBody as Api
 use Rattle.api_versions_request.specs.declared.Text.{Text}
 use Rattle.metadata_request.specs.declared.RequestBody as Metadata

@@ -1,4 +1,4 @@
--- What is said of ApiVersions responses that `response::write` wrote and `response::read_whole` reads: the replies that their promises allow, and a response that came back. Assumes nothing.
+-- What is said of ApiVersions responses that `write` wrote and `read_whole` reads (`api_versions_response`): the replies that their promises allow, and a response that came back. Assumes nothing.
 use mathlib.Core.List.{List, [], _∷_, map}
 use mathlib.Core.Path.{_≡_}
 use Prim.Native.Nat.{_/_, _≤_, suc, zero, ℕ}
@@ -8,11 +8,11 @@ use Rattle.layout.specs.Reading.{Refusal}
 use Rattle.layout.specs.Tables.{rowsOf}
 use Rattle.layout.specs.Answers.{accepted, refused, wholeRead, writeAnswer}
 use Rattle.layout.specs.Messages.ApiVersions as Api
-use Rattle.writers.specs.Answers.{replied}
-use Rattle.writers.specs.declared.Written.{Written}
-use Rattle.api_versions.specs.Answers.{ofResponse, ofResponseReply}
-use Rattle.api_versions.specs.declared.ResponseBody.{ResponseBody}
-use Rattle.api_versions.specs.declared.ResponseReply.{ResponseReply}
+use Rattle.primitives_put.specs.Answers.{replied}
+use Rattle.primitives_put.specs.declared.Written.{Written}
+use Rattle.api_versions_response.specs.Answers.{ofResponse, ofResponseReply}
+use Rattle.api_versions_response.specs.declared.ResponseBody.{ResponseBody}
+use Rattle.api_versions_response.specs.declared.ResponseReply.{ResponseReply}
 use Rattle.demands.specs.Returned.{bodyBack, itemBack, joined, onto, tagShown, tagsKept}
 
 -- the layouts of version 0, of 1 and 2, of 3
@@ -26,7 +26,7 @@ layout (suc (suc (suc v))) = 2
 abbrev pub Pair : Type 0
 Pair = List ℕ × List ℕ
 
--- x is a reply that `response::read_whole` may give, and the tables behind it, where `room` was lent
+-- x is a reply that `read_whole` may give, and the tables after it, where `room` was lent
 abbrev pub WholeRead : List ℕ → ℕ → Pair → ResponseReply × Pair → Type 0
 WholeRead body v room x = (ofResponseReply (x .0), x .1 .0 ∷ x .1 .1 ∷ []) ≡ wholeRead Api.response (pos v) (room .0 ∷ room .1 ∷ []) body
 
@@ -38,7 +38,7 @@ Accepts x n = (r : List ℕ) × (ofResponseReply (x .0) ≡ accepted r n)
 abbrev pub Refuses : Refusal → Pair → ResponseReply × Pair → Type 0
 Refuses e room x = (ofResponseReply (x .0) ≡ refused e) × (x .1 .0 ≡ room .0) × (x .1 .1 ≡ room .1)
 
--- `response::write` may answer r and leave `after` in place of `out`
+-- `write` may answer r and leave `after` in place of `out`
 abbrev pub Writes : List ℕ → ℕ → List ℕ → ResponseBody → Pair → Written → List ℕ → Type 0
 Writes out v lent b tables r after = replied r after ≡ writeAnswer Api.response (pos v) lent (ofResponse b ∷ tables .0 ∷ tables .1 ∷ []) out
 

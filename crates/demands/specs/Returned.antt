@@ -6,8 +6,8 @@ use lib.Dec.{eqb, leb}
 use lib.ListN.{drop, getD, length}
 use Rattle.layout.specs.Primitives.{minus}
 use Rattle.layout.specs.Tables.{slice}
-use Rattle.versioned.specs.declared.Versioned.{Versioned}
-use Rattle.api_versions.specs.declared.ResponseBody.{ResponseBody}
+use Rattle.body_reading.specs.declared.versioned.Versioned.{Versioned}
+use Rattle.api_versions_response.specs.declared.ResponseBody.{ResponseBody}
 
 -- version 0 lacks the throttle time; unset it is 0
 abbrev pub throttleBack : ℕ → Versioned → Versioned

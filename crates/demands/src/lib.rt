@@ -1,1 +1,1 @@
-// What the mission demands, said of the calls: definitions and laws alone.
+// The mission's three demands, said of the calls: definitions and laws alone.

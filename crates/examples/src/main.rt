@@ -1,16 +1,16 @@
 // Runs the readers and writers of primitives on the examples of docs/RULES.md and on the varints at the ends of each length, and tells what they answer.
 // expected.py has what it must write, from the rules and from Python's own arithmetic.
-use fields::Count;
-use fields::Field;
-use fields::Nullable;
-use fields::Part;
 use libc::STDOUT_FILENO;
+use primitives::Count;
+use primitives::Field;
 use primitives::Flag;
 use primitives::Integer;
+use primitives::Nullable;
 use primitives::Number;
+use primitives::Part;
 use primitives::Refusal;
-use tags::Tagged;
-use writers::Written;
+use primitives_put::Written;
+use tagged_fields::reading::Tagged;
 
 fn say(s: &[u8]) {
     io::write_all(STDOUT_FILENO, s);
@@ -65,7 +65,7 @@ fn integer(r: Integer) {
     match r {
         Integer::Took { value, used: n } => {
             let mut out = [0u8; 8];
-            let w = write_numbers::int64(&mut out, value);
+            let w = primitives_calls::write::int64(&mut out, value);
             wrote(&out, w);
             used(n);
         }
@@ -152,7 +152,7 @@ fn nullable(r: Nullable) {
 
 fn wrote(out: &[u8], r: Written) {
     match r {
-        Written::Wrote(n) => hex(fields::read::part(out, 0, n)),
+        Written::Wrote(n) => hex(primitives::shown::part(out, 0, n)),
         Written::Refused(e) => refused(e),
     }
 }
@@ -185,10 +185,10 @@ fn unsigned_varints() {
     let mut i: usize = 0;
     while i < ends.len() {
         let mut out = [0u8; 10];
-        let r = write_numbers::unsigned_varint(&mut out, ends[i]);
+        let r = primitives_calls::write::unsigned_varint(&mut out, ends[i]);
         wrote(&out, r);
         say(b"\n");
-        number(read_numbers::unsigned_varint(&out));
+        number(primitives_calls::read::unsigned_varint(&out));
         i = i + 1;
     }
 }
@@ -213,10 +213,10 @@ fn varints() {
     let mut i: usize = 0;
     while i < ends.len() {
         let mut out = [0u8; 10];
-        let r = write_numbers::varint(&mut out, ends[i]);
+        let r = primitives_calls::write::varint(&mut out, ends[i]);
         wrote(&out, r);
         say(b"\n");
-        integer(read_numbers::varint(&out));
+        integer(primitives_calls::read::varint(&out));
         i = i + 1;
     }
 }
@@ -235,10 +235,10 @@ fn varlongs() {
     let mut i: usize = 0;
     while i < ends.len() {
         let mut out = [0u8; 10];
-        let r = write_numbers::varlong(&mut out, ends[i]);
+        let r = primitives_calls::write::varlong(&mut out, ends[i]);
         wrote(&out, r);
         say(b"\n");
-        integer(read_numbers::varlong(&out));
+        integer(primitives_calls::read::varlong(&out));
         i = i + 1;
     }
 }
@@ -246,15 +246,15 @@ fn varlongs() {
 // ---- the examples of the rules
 
 fn texts() {
-    part(read_fields::string(&[0, 4, 0xF4, 0x8F, 0xBF, 0xBF]));
-    part(read_fields::string(&[0, 4, 0xF4, 0x90, 0x80, 0x80]));
-    part(read_fields::string(&[0, 2, 0xC0, 0x80]));
-    part(read_fields::string(&[0, 3, 0xED, 0xA0, 0x80]));
+    part(primitives_calls::read::string(&[0, 4, 0xF4, 0x8F, 0xBF, 0xBF]));
+    part(primitives_calls::read::string(&[0, 4, 0xF4, 0x90, 0x80, 0x80]));
+    part(primitives_calls::read::string(&[0, 2, 0xC0, 0x80]));
+    part(primitives_calls::read::string(&[0, 3, 0xED, 0xA0, 0x80]));
 }
 
 fn written(text: &[u8]) {
     let mut out = [0u8; 6];
-    let r = write_fields::string(&mut out, text);
+    let r = primitives_calls::write::string(&mut out, text);
     wrote(&out, r);
     say(b"\n");
 }
@@ -283,21 +283,21 @@ fn size(r: Written) {
 fn long_texts() {
     let text = [b'a'; 32768];
     let mut out = io::large_buffer();
-    size(write_fields::string(&mut out, &text[..32767]));
-    part(read_fields::string(&out));
-    size(write_fields::string(&mut out, &text));
-    size(write_fields::nullable_string(&mut out, false, &text));
-    size(write_fields::compact_string(&mut out, &text));
+    size(primitives_calls::write::string(&mut out, &text[..32767]));
+    part(primitives_calls::read::string(&out));
+    size(primitives_calls::write::string(&mut out, &text));
+    size(primitives_calls::write::nullable_string(&mut out, false, &text));
+    size(primitives_calls::write::compact_string(&mut out, &text));
 }
 
 fn lengths() {
-    nullable(read_fields::nullable_string(&[0xFF, 0xFF]));
-    nullable(read_fields::nullable_string(&[0xFF, 0xFE]));
-    part(read_fields::compact_string(&[0]));
-    part(read_fields::compact_string(&[1]));
-    nullable(read_fields::compact_nullable_string(&[0]));
-    part(read_fields::compact_bytes(&[0]));
-    part(read_fields::records(&[0xFF, 0xFF, 0xFF, 0xFF]));
+    nullable(primitives_calls::read::nullable_string(&[0xFF, 0xFF]));
+    nullable(primitives_calls::read::nullable_string(&[0xFF, 0xFE]));
+    part(primitives_calls::read::compact_string(&[0]));
+    part(primitives_calls::read::compact_string(&[1]));
+    nullable(primitives_calls::read::compact_nullable_string(&[0]));
+    part(primitives_calls::read::compact_bytes(&[0]));
+    part(primitives_calls::read::records(&[0xFF, 0xFF, 0xFF, 0xFF]));
 }
 
 fn tagged(r: Tagged) {
@@ -326,7 +326,7 @@ fn cells(table: &[u64]) {
 // The table begins as seven sevens: two rows, and a cell that is no row.
 fn tag_rows(msg: &[u8]) {
     let mut table = [7u64; 7];
-    tagged(tags::tagged_fields(msg, &mut table));
+    tagged(tagged_fields::reading::tagged_fields(msg, &mut table));
     cells(&table);
 }
 
@@ -342,7 +342,7 @@ fn tag_buffers() {
 // Two bytes are lent, and there is room for seven.
 fn tags_put(count: u64, table: &[u64]) {
     let mut out = [0u8; 7];
-    let r = tags_written::tagged_fields(&mut out, &[0xAA, 0xBB], count, table);
+    let r = tagged_fields::writing::tagged_fields(&mut out, &[0xAA, 0xBB], count, table);
     wrote(&out, r);
     say(b"\n");
 }
@@ -356,27 +356,27 @@ fn written_tags() {
 }
 
 fn no_numbers(msg: &[u8]) {
-    integer(read_numbers::int8(msg));
-    integer(read_numbers::int16(msg));
-    integer(read_numbers::int32(msg));
-    integer(read_numbers::int64(msg));
-    flag(read_numbers::boolean(msg));
-    number(read_numbers::unsigned_varint(msg));
-    integer(read_numbers::varint(msg));
-    integer(read_numbers::varlong(msg));
+    integer(primitives_calls::read::int8(msg));
+    integer(primitives_calls::read::int16(msg));
+    integer(primitives_calls::read::int32(msg));
+    integer(primitives_calls::read::int64(msg));
+    flag(primitives_calls::read::boolean(msg));
+    number(primitives_calls::read::unsigned_varint(msg));
+    integer(primitives_calls::read::varint(msg));
+    integer(primitives_calls::read::varlong(msg));
 }
 
 fn no_fields(msg: &[u8]) {
-    count(read_fields::array_count(msg));
-    count(read_fields::compact_array_count(msg));
-    part(read_fields::bytes(msg));
-    nullable(read_fields::nullable_bytes(msg));
-    part(read_fields::compact_bytes(msg));
-    part(read_fields::records(msg));
-    part(read_fields::string(msg));
-    nullable(read_fields::nullable_string(msg));
-    part(read_fields::compact_string(msg));
-    nullable(read_fields::compact_nullable_string(msg));
+    count(primitives_calls::read::array_count(msg));
+    count(primitives_calls::read::compact_array_count(msg));
+    part(primitives_calls::read::bytes(msg));
+    nullable(primitives_calls::read::nullable_bytes(msg));
+    part(primitives_calls::read::compact_bytes(msg));
+    part(primitives_calls::read::records(msg));
+    part(primitives_calls::read::string(msg));
+    nullable(primitives_calls::read::nullable_string(msg));
+    part(primitives_calls::read::compact_string(msg));
+    nullable(primitives_calls::read::compact_nullable_string(msg));
 }
 
 fn main() {

@@ -3,15 +3,14 @@
 // expected.py has what it must write, from the rules, by a reader of its own.
 ghost use mathlib.Core.Path.{_≡_};
 ghost use Prim.Native.Nat.{_≤_};
-ghost use Rattle.api_versions.specs.Answers.{accepting};
-use api_versions::ResponseBody;
-use api_versions::ResponseReply;
-use api_versions::response;
+ghost use Rattle.api_versions_response.specs.Answers.{accepting};
+use api_versions_response::ResponseBody;
+use api_versions_response::ResponseReply;
+use body_reading::versioned::Versioned;
+use body_writing::ranges::part;
 use libc::STDOUT_FILENO;
 use primitives::Refusal;
-use ranges::part;
-use versioned::Versioned;
-use writers::Written;
+use primitives_put::Written;
 
 fn say(s: &[u8]) {
     io::write_all(STDOUT_FILENO, s);
@@ -105,7 +104,7 @@ fn refused(e: Refusal) {
 }
 
 fn signed(n: i64) {
-    cell(writers::write::cell(n));
+    cell(primitives_put::replies::cell(n));
 }
 
 fn chosen(a: [i64; 3]) {
@@ -119,7 +118,7 @@ fn chosen(a: [i64; 3]) {
 }
 
 fn offered(items: &[u64]) {
-    let a = agreement::agree(items);
+    let a = api_versions_agreement::agree(items);
     chosen(a[0]);
     chosen(a[1]);
     chosen(a[2]);
@@ -146,7 +145,7 @@ fn whole(msg: &[u8], version: i64, name: &[u8]) {
     say(name);
     say(b": ");
     told(
-        response::read_whole(msg, version, &mut items, &mut tags),
+        api_versions_response::read_whole(msg, version, &mut items, &mut tags),
         &items,
     );
 }
@@ -157,7 +156,10 @@ fn prefix(msg: &[u8], version: i64, name: &[u8]) {
     say(b"  prefix at ");
     say(name);
     say(b": ");
-    told(response::read(msg, version, &mut items, &mut tags), &items);
+    told(
+        api_versions_response::read(msg, version, &mut items, &mut tags),
+        &items,
+    );
 }
 
 fn accepts(r: ResponseReply) -> u64
@@ -173,9 +175,9 @@ fn accepts(r: ResponseReply) -> u64
 fn layouts(msg: &[u8], items: &mut [u64], tags: &mut [u64]) -> u64
     ensures { λ n. ⌜ n ≤ 1 ⌝ }
 {
-    let bare = accepts(response::read_whole(msg, 0, items, tags));
-    let throttled = accepts(response::read_whole(msg, 1, items, tags));
-    let flexible = accepts(response::read_whole(msg, 3, items, tags));
+    let bare = accepts(api_versions_response::read_whole(msg, 0, items, tags));
+    let throttled = accepts(api_versions_response::read_whole(msg, 1, items, tags));
+    let flexible = accepts(api_versions_response::read_whole(msg, 3, items, tags));
     bare + throttled + flexible
 }
 
@@ -214,7 +216,7 @@ fn written(version: i64, name: &[u8]) {
         throttle: Versioned::Present(100),
         tags: 1,
     };
-    let r = api_versions_written::response::write(
+    let r = api_versions_response::write(
         &mut out,
         version,
         b"\xaa",

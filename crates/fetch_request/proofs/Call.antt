@@ -13,13 +13,13 @@ use Rattle.layout.specs.Primitives.{bytes, empty, fixed, holds, lengthBytes, w3
 use Rattle.layout.specs.Rows.{at, end, stands, standing}
 use Rattle.layout.specs.Tables.{Tables, basicOf, chosen, count, good, pop, valueOf, width}
 use Rattle.layout.specs.Write.{or, unless, write, writeBasic}
-use Rattle.rows.specs.Writes.{bytesAt, itemsBytes, itemsFault, refusalOf, rowBytes}
-use Rattle.rows.proofs.Reply.{up-to-four}
-use Rattle.rows.proofs.Writes.{any-bytes}
+use Rattle.body_writing.specs.Writes.{bytesAt, itemsBytes, itemsFault, refusalOf, rowBytes}
+use Rattle.body_reading.proofs.Reply.{up-to-four}
+use Rattle.body_writing.proofs.Writes.{any-bytes}
 use Rattle.primitives.specs.Answers.{versionOf}
-use Rattle.writers.proofs.Called.{called}
-use Rattle.versioned.specs.Cells.{given, versionedCells}
-use Rattle.versioned.specs.declared.Versioned.{Versioned}
+use Rattle.body_writing.proofs.Called.{called}
+use Rattle.body_reading.specs.Cells.{given, versionedCells}
+use Rattle.body_reading.specs.declared.versioned.Versioned.{Versioned}
 use Rattle.fetch_request.specs.Shapes.{leadShape, limitsShape, requestShape, topicShape, topicsShape}
 use Rattle.fetch_request.proofs.OwnRow.{good-topics, is-fault, is-good}
 use Rattle.fetch_request.proofs.Walk.{lead-bytes, limits-bytes, topics-bytes}

@@ -12,12 +12,12 @@ use Rattle.layout.specs.Tables.{basicOf, pop, rowsOf, valueOf, width}
 use Rattle.layout.specs.Write.{basicFault, fault, unless}
 use Rattle.layout.proofs.Proper.{both}
 use Rattle.layout.proofs.Tests.{le-true, lt-false, lt-true, of-ge}
-use Rattle.rows.specs.Writes.{faultAt, rowFault, rowsFault}
-use Rattle.rows.proofs.Chunks.{row-cell}
-use Rattle.rows.proofs.Faults.{none-is, or-three, rows-clean}
-use Rattle.rows.proofs.Judged.{Judged, judged-end, odd-last}
-use Rattle.writers.specs.Answers.{within}
-use Rattle.ranges.proofs.Cells.{Cells}
+use Rattle.body_writing.specs.Writes.{faultAt, rowFault, rowsFault}
+use Rattle.layout.proofs.Chunks.{row-cell}
+use Rattle.body_writing.proofs.Faults.{none-is, or-three, rows-clean}
+use Rattle.body_writing.proofs.Judged.{Judged, judged-end, odd-last}
+use Rattle.primitives_put.specs.Answers.{within}
+use Rattle.body_writing.proofs.Cells.{Cells}
 use Rattle.fetch_request.specs.Shapes.{partitionShape}
 
 pub is-held : (n : ℕ) → within 2147483648 n ≡ holds w32 n

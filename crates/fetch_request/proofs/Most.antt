@@ -11,9 +11,9 @@ use Rattle.layout.specs.Primitives.{bytes, lengthBytes}
 use Rattle.layout.specs.Tables.{chunks, rowsOf, slice, sum, times}
 use Rattle.layout.specs.Write.{each}
 use Rattle.layout.proofs.Back.{length-bytes}
-use Rattle.rows.specs.Step.{cap}
-use Rattle.rows.specs.Writes.{bytesAt, itemsBytes, takes}
-use Rattle.rows.proofs.Nested.{one, takes-first}
+use Rattle.primitives_put.specs.Step.{cap}
+use Rattle.body_writing.specs.Writes.{bytesAt, itemsBytes, takes}
+use Rattle.body_writing.proofs.Nested.{one, takes-first}
 use Rattle.fetch_request.specs.declared.Own.{Own}
 use Rattle.fetch_request.specs.Shapes.{ownRow, requestShape, topicShape}
 use Rattle.fetch_request.proofs.Walk.{lead-are, lead-bytes, limits-are, limits-bytes, topic-wide, topicNest, topics-bytes}

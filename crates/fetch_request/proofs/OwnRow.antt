@@ -15,12 +15,12 @@ use Rattle.layout.specs.Tables.{all, arrays, asked, basicOf, chosen, count, goo
 use Rattle.layout.specs.Write.{basicFault, fault, or, tooLong, unless}
 use Rattle.layout.proofs.Proper.{both}
 use Rattle.layout.proofs.Tests.{lt-false, lt-true, of-eq}
-use Rattle.rows.specs.Writes.{faultAt, itemsFault, refusalOf, takes}
-use Rattle.rows.proofs.Faults.{or-both}
-use Rattle.rows.proofs.Taking.{sum-cells}
-use Rattle.rows.proofs.Writes.{any-fault, refusal-bad, refusal-good, refusal-none}
-use Rattle.ranges.specs.Asked.{allRanged, ranged, tells, told, toldGood}
-use Rattle.ranges.proofs.Lent.{all-true, good-two, rows-agree, rows-differ}
+use Rattle.body_writing.specs.Writes.{faultAt, itemsFault, refusalOf, takes}
+use Rattle.body_writing.proofs.Faults.{or-both}
+use Rattle.body_writing.proofs.Taking.{sum-cells}
+use Rattle.body_writing.proofs.Writes.{any-fault, refusal-bad, refusal-good, refusal-none}
+use Rattle.body_writing.specs.Asked.{allRanged, ranged, tells, told, toldGood}
+use Rattle.body_writing.proofs.Lent.{all-true, good-two, rows-agree, rows-differ}
 use Rattle.fetch_request.specs.declared.Own.{Own}
 use Rattle.fetch_request.specs.Shapes.{ownRow, partitionShape, requestShape, topicShape, topicsShape}
 

@@ -9,13 +9,13 @@ use lib.ListN.{getD, length, take}
 use Rattle.layout.specs.Primitives.{empty, fixed, w32}
 use Rattle.layout.specs.Tables.{basicOf, count, pop, slice, valueOf, width}
 use Rattle.layout.specs.Write.{basicFault, fault, or, tooLong, unless}
-use Rattle.rows.specs.Writes.{faultAt, rowFault, rowsFault, takes}
-use Rattle.rows.proofs.Faults.{rows-only}
-use Rattle.rows.proofs.Nested.{row-fault}
-use Rattle.rows.proofs.Turns.{or-first, or-second}
-use Rattle.put.proofs.Rows.{stringShape}
-use Rattle.ranges.specs.Asked.{stringFault}
-use Rattle.ranges.proofs.Lent.{string-fault}
+use Rattle.body_writing.specs.Writes.{faultAt, rowFault, rowsFault, takes}
+use Rattle.body_writing.proofs.Faults.{rows-only}
+use Rattle.body_writing.proofs.Nested.{row-fault}
+use Rattle.body_writing.proofs.Turns.{or-first, or-second}
+use Rattle.body_writing.proofs.Rows.{stringShape}
+use Rattle.body_writing.specs.Asked.{stringFault}
+use Rattle.body_writing.proofs.Lent.{string-fault}
 use Rattle.fetch_request.proofs.Fits.{partition-fault}
 use Rattle.fetch_request.proofs.Walk.{named, three}
 use Rattle.fetch_request.specs.Shapes.{partitionShape, topicShape}

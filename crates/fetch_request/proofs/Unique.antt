@@ -5,9 +5,9 @@ use lib.IntN.{ℤ}
 use Prim.Native.Nat.{ℕ}
 use Rattle.layout.specs.Answers.{writeAnswer}
 use Rattle.layout.specs.Messages.Fetch as Fetch
-use Rattle.writers.specs.Answers.{replied}
-use Rattle.writers.specs.declared.Written.{Written}
-use Rattle.writers.proofs.Unique.{written-unique}
+use Rattle.primitives_put.specs.Answers.{replied}
+use Rattle.primitives_put.specs.declared.Written.{Written}
+use Rattle.primitives_put.proofs.Unique.{written-unique}
 use Rattle.fetch_request.specs.Answers.{ofRequest}
 use Rattle.fetch_request.specs.declared.RequestBody.{RequestBody}
 

@@ -14,18 +14,18 @@ use Rattle.layout.specs.Rows.{end, stands}
 use Rattle.layout.specs.Tables.{basicOf, chosen, count, pop, rowWidth, rowsOf, slice, valueOf, width}
 use Rattle.layout.specs.Write.{write, writeBasic}
 use Rattle.layout.proofs.Back.{length-bytes}
-use Rattle.rows.specs.Step.{Capped, cap}
-use Rattle.rows.specs.Writes.{bytesAt, countedBytes, itemsBytes, rowBytes, rowsBytes, takes}
-use Rattle.rows.proofs.Capped.{capped, capped-as, capped-behind}
-use Rattle.rows.proofs.Chunks.{row-cell}
-use Rattle.rows.proofs.Nested.{Nest, row-bytes}
-use Rattle.rows.proofs.Writes.{any-bytes, joined-bytes}
-use Rattle.put.specs.declared.Form.{Form}
-use Rattle.put.specs.Put.{Put, behindLength, sizeOf}
-use Rattle.put.proofs.Even.{Even, even-end, even-left, even-more, rows-wide, three-put}
-use Rattle.put.proofs.Rows.{counted-put, string-bytes, stringShape}
-use Rattle.put.proofs.Stored.{put-step}
-use Rattle.ranges.proofs.Counts.{few-told}
+use Rattle.primitives_put.specs.Step.{Capped, cap}
+use Rattle.body_writing.specs.Writes.{bytesAt, countedBytes, itemsBytes, rowBytes, rowsBytes, takes}
+use Rattle.primitives_put.proofs.Capped.{capped, capped-as, capped-behind}
+use Rattle.layout.proofs.Chunks.{row-cell}
+use Rattle.body_writing.proofs.Nested.{Nest, row-bytes}
+use Rattle.body_writing.proofs.Writes.{any-bytes, joined-bytes}
+use Rattle.primitives_put.specs.declared.Form.{Form}
+use Rattle.primitives_put.specs.Put.{Put, behindLength, sizeOf}
+use Rattle.body_writing.proofs.Even.{Even, even-end, even-left, even-more, rows-wide, three-put}
+use Rattle.body_writing.proofs.Rows.{counted-put, string-bytes, stringShape}
+use Rattle.primitives_put.proofs.Stored.{put-step}
+use Rattle.body_writing.proofs.Counts.{few-told}
 use Rattle.fetch_request.specs.Shapes.{leadShape, limitsShape, partitionShape, requestShape, topicShape, topicsShape}
 
 -- ---- partitions: sixteen bytes each

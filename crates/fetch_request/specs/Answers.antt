@@ -1,7 +1,7 @@
 -- What a request says in the definition's words: its own row, cell by cell.
 use mathlib.Core.List.{List, [], _++_, _∷_}
 use Prim.Native.Nat.{ℕ}
-use Rattle.versioned.specs.Cells.{versionedCells}
+use Rattle.body_reading.specs.Cells.{versionedCells}
 use Rattle.fetch_request.specs.declared.RequestBody.{RequestBody}
 
 -- replica, wait, min bytes, max bytes (kind, number), isolation (kind, number), number of topics

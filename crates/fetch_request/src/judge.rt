@@ -8,18 +8,18 @@ ghost use Prim.Native.Nat.{_/_, _<_, _^_, _≤_};
 ghost use lib.Dec.{eqb, leb, ltb};
 ghost use Rattle.layout.specs.Primitives.{holds, w32};
 ghost use Rattle.layout.specs.Tables.{good, rowsOf, sum};
-ghost use Rattle.rows.specs.Writes.{faultAt, itemsFault, refusalOf, rowFault, rowsFault, takes};
+ghost use Rattle.body_writing.specs.Writes.{faultAt, itemsFault, refusalOf, rowFault, rowsFault, takes};
 ghost use Rattle.fetch_request.specs.Shapes.{ownRow, partitionShape, requestShape, topicShape};
 use crate::Own;
+use body_writing::ranges::Row;
+use body_writing::ranges::all_ranged;
+use body_writing::ranges::do_topics_tell;
+use body_writing::ranges::part;
+use body_writing::ranges::rows_told;
+use body_writing::ranges::string_fault;
 use primitives::BAD_TABLES;
 use primitives::TOO_WIDE;
-use ranges::Row;
-use ranges::all_ranged;
-use ranges::do_topics_tell;
-use ranges::part;
-use ranges::rows_told;
-use ranges::string_fault;
-use writers::write::fits;
+use primitives_put::replies::fits;
 
 // ---- 13
 

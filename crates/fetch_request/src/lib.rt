@@ -1,6 +1,6 @@
 // The Fetch request, versions 0 to 4: the partitions that a client asks for, written.
 // Numbers are cells, as in the tables: 64 bits, two's complement.
-use versioned::Versioned;
+use body_reading::versioned::Versioned;
 
 mod judge;
 mod writing;

@@ -10,25 +10,25 @@ ghost use Rattle.layout.specs.Messages.Fetch as Fetch;
 ghost use Rattle.layout.specs.Primitives.{bytes, empty, fixed, w32};
 ghost use Rattle.layout.specs.Rows.{end};
 ghost use Rattle.layout.specs.Tables.{rowsOf, sum};
-ghost use Rattle.rows.specs.Step.{Capped, cap};
-ghost use Rattle.rows.specs.Writes.{bytesAt, countedBytes, itemsBytes, refusalOf, rowBytes, rowsBytes, takes};
-ghost use Rattle.writers.specs.Answers.{replied};
+ghost use Rattle.primitives_put.specs.Step.{Capped, cap};
+ghost use Rattle.body_writing.specs.Writes.{bytesAt, countedBytes, itemsBytes, refusalOf, rowBytes, rowsBytes, takes};
+ghost use Rattle.primitives_put.specs.Answers.{replied};
 ghost use Rattle.fetch_request.specs.Answers.{ofRequest};
 ghost use Rattle.fetch_request.specs.Shapes.{leadShape, limitsShape, ownRow, partitionShape, requestShape, topicShape, topicsShape};
 use crate::Own;
 use crate::RequestBody;
 use crate::judge::cells;
 use crate::judge::refusal;
+use body_reading::cells::given;
+use body_writing::ranges::part;
 use primitives::MOST;
 use primitives::NO_VERSION;
 use primitives::TOO_LONG;
 use primitives::at;
 use primitives::no_room;
 use primitives::version_of;
-use put::Form;
-use ranges::part;
-use versioned::cells::given;
-use writers::Written;
+use primitives_put::Form;
+use primitives_put::Written;
 
 // ---- the walk
 
@@ -36,10 +36,10 @@ use writers::Written;
 fn two(out: &mut [u8], a: u64, n: usize, b: u64, m: usize) -> usize
     ensures { λ r. ⌜ Capped (bytes n a ++ bytes m b) (now (out .entry)) r (now (out .exit)) ⌝ }
 {
-    let x = put::lowest(out, a, n);
-    let p = put::behind(x, out.len());
-    let y = put::lowest(&mut out[p..], b, m);
-    put::add(x, y)
+    let x = primitives_put::lowest(out, a, n);
+    let p = primitives_put::behind(x, out.len());
+    let y = primitives_put::lowest(&mut out[p..], b, m);
+    primitives_put::add(x, y)
 }
 
 // A row's sixteen bytes.
@@ -48,9 +48,9 @@ fn partition(out: &mut [u8], table: &[u64], i: usize) -> usize
     ensures { λ r. ⌜ Capped (rowBytes [] partitionShape (getD (rowsOf 3 (now (table .entry))) i [])) (now (out .entry)) r (now (out .exit)) ⌝ }
 {
     if 16 <= out.len() {
-        put::lowest(out, table[i * 3], 4);
-        put::lowest(&mut out[4..], table[i * 3 + 1], 8);
-        put::lowest(&mut out[12..], table[i * 3 + 2], 4);
+        primitives_put::lowest(out, table[i * 3], 4);
+        primitives_put::lowest(&mut out[4..], table[i * 3 + 1], 8);
+        primitives_put::lowest(&mut out[12..], table[i * 3 + 2], 4);
     }
     16
 }
@@ -92,10 +92,10 @@ fn partitions(out: &mut [u8], table: &[u64]) -> usize
 fn counted(out: &mut [u8], table: &[u64]) -> usize
     ensures { λ r. ⌜ Capped (countedBytes [] partitionShape (fixed w32 empty) 3 (now (table .entry))) (now (out .entry)) r (now (out .exit)) ⌝ }
 {
-    let a = put::length(out, Form::Int32, (table.len() / 3) as u64);
-    let p = put::behind(a, out.len());
+    let a = primitives_put::length(out, Form::Int32, (table.len() / 3) as u64);
+    let p = primitives_put::behind(a, out.len());
     let b = partitions(&mut out[p..], table);
-    put::add(a, b)
+    primitives_put::add(a, b)
 }
 
 // The first row of `topics`, with the first rows of `partitions`: measured first, and stored where there is room for all of it.
@@ -108,7 +108,7 @@ fn topic(out: &mut [u8], lent: &[u8], topics: &[u64], partitions: &[u64]) -> usi
     let head = name.len() + 2;
     let all = head + 4 + k / 3 * 16;
     if all <= out.len() {
-        put::sized(out, Form::Int16, name);
+        primitives_put::sized(out, Form::Int16, name);
         counted(&mut out[head..], &partitions[..k]);
     }
     all
@@ -124,9 +124,9 @@ fn all_topics(out: &mut [u8], lent: &[u8], topics: &[u64], partitions: &[u64]) -
     let mut free = partitions;
     while 3 <= left.len() {
         let k = cells(left);
-        let p = put::behind(done, out.len());
+        let p = primitives_put::behind(done, out.len());
         let more = topic(&mut out[p..], lent, left, free);
-        done = put::add(done, more);
+        done = primitives_put::add(done, more);
         free = &free[k..];
         left = &left[3..];
     }
@@ -138,10 +138,10 @@ fn array(out: &mut [u8], lent: &[u8], topics: &[u64], partitions: &[u64]) -> usi
     requires { ⌜ sum (takes 3 2) (rowsOf 3 (now topics)) ≤ length (now partitions) ⌝ }
     ensures { λ r. ⌜ Capped (bytesAt (now (lent .entry)) topicsShape 0 ((length (now (topics .entry)) / 3 ∷ []) ∷ now (topics .entry) ∷ now (partitions .entry) ∷ [])) (now (out .entry)) r (now (out .exit)) ⌝ }
 {
-    let a = put::length(out, Form::Int32, (topics.len() / 3) as u64);
-    let p = put::behind(a, out.len());
+    let a = primitives_put::length(out, Form::Int32, (topics.len() / 3) as u64);
+    let p = primitives_put::behind(a, out.len());
     let b = all_topics(&mut out[p..], lent, topics, partitions);
-    put::add(a, b)
+    primitives_put::add(a, b)
 }
 
 // The lowest k bytes of n, where the version has the field.
@@ -149,7 +149,7 @@ fn number_if(out: &mut [u8], has: bool, n: u64, k: usize) -> usize
     ensures { λ r. ⌜ Capped (cond has (bytes k n) []) (now (out .entry)) r (now (out .exit)) ⌝ }
 {
     if has {
-        return put::lowest(out, n, k);
+        return primitives_put::lowest(out, n, k);
     }
     0
 }
@@ -159,18 +159,18 @@ fn limits(out: &mut [u8], b: bool, i: bool, largest: u64, level: u64) -> usize
     ensures { λ r. ⌜ Capped (rowBytes [] (limitsShape b i end) (2 ∷ largest ∷ 2 ∷ level ∷ [])) (now (out .entry)) r (now (out .exit)) ⌝ }
 {
     let x = number_if(out, b, largest, 4);
-    let p = put::behind(x, out.len());
+    let p = primitives_put::behind(x, out.len());
     let y = number_if(&mut out[p..], i, level, 1);
-    put::add(x, y)
+    primitives_put::add(x, y)
 }
 
 fn lead(out: &mut [u8], replica: u64, wait: u64, least: u64) -> usize
     ensures { λ r. ⌜ Capped (rowBytes [] (leadShape end) (replica ∷ wait ∷ least ∷ [])) (now (out .entry)) r (now (out .exit)) ⌝ }
 {
-    let a = put::lowest(out, replica, 4);
-    let p = put::behind(a, out.len());
+    let a = primitives_put::lowest(out, replica, 4);
+    let p = primitives_put::behind(a, out.len());
     let b = two(&mut out[p..], wait, 4, least, 4);
-    put::add(a, b)
+    primitives_put::add(a, b)
 }
 
 // What stands behind min bytes.
@@ -179,9 +179,9 @@ fn rest(out: &mut [u8], own: Own, lent: &[u8], topics: &[u64], partitions: &[u64
     ensures { λ r. ⌜ Capped (bytesAt (now (lent .entry)) (limitsShape (own .limited) (own .isolated) topicsShape) 0 ((2 ∷ own .largest ∷ 2 ∷ own .level ∷ length (now (topics .entry)) / 3 ∷ []) ∷ now (topics .entry) ∷ now (partitions .entry) ∷ [])) (now (out .entry)) r (now (out .exit)) ⌝ }
 {
     let x = limits(out, own.limited, own.isolated, own.largest, own.level);
-    let p = put::behind(x, out.len());
+    let p = primitives_put::behind(x, out.len());
     let y = array(&mut out[p..], lent, topics, partitions);
-    put::add(x, y)
+    primitives_put::add(x, y)
 }
 
 fn body(out: &mut [u8], own: Own, lent: &[u8], topics: &[u64], partitions: &[u64]) -> usize
@@ -189,9 +189,9 @@ fn body(out: &mut [u8], own: Own, lent: &[u8], topics: &[u64], partitions: &[u64
     ensures { λ r. ⌜ Capped (bytesAt (now (lent .entry)) (requestShape (own .limited) (own .isolated)) 0 (ownRow own (length (now (topics .entry)) / 3) ∷ now (topics .entry) ∷ now (partitions .entry) ∷ [])) (now (out .entry)) r (now (out .exit)) ⌝ }
 {
     let x = lead(out, own.replica, own.wait, own.least);
-    let p = put::behind(x, out.len());
+    let p = primitives_put::behind(x, out.len());
     let y = rest(&mut out[p..], own, lent, topics, partitions);
-    put::add(x, y)
+    primitives_put::add(x, y)
 }
 
 // ---- the call

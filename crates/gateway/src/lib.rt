@@ -1,15 +1,15 @@
-// The C interface: the library's calls with numbers and slices alone, and each answer as a struct of numbers. Here stands what all answers begin with;
-// the entry points have crates of their own: `gateway_primitives`, and one for each message.
-// A cell is 64 bits, two's complement. Where a struct says `number` 0 the call accepted, and `place` and `need` are 0;
+// The C interface, what all of its answers begin with: number, place and need. The entry points have crates of their own: `gateway_primitives`, and one for each message.
+// Each call of the library is there with numbers and slices alone, and each answer is a struct of numbers. A cell is 64 bits, two's complement.
+// Where a struct has `number` 0 the call accepted, and `place` and `need` are 0;
 // else it refused with that number of docs/RULES.md, section 10, at that place, and every other field is 0.
 ghost use mathlib.Core.Path.{_≡_};
 ghost use mathlib.Core.List.{[]};
 ghost use Rattle.layout.specs.Answers.{accepted, refused};
 ghost use Rattle.primitives.specs.Answers.{ofRefusal};
-ghost use Rattle.writers.specs.Answers.{ofWritten};
+ghost use Rattle.primitives_put.specs.Answers.{ofWritten};
 ghost use Rattle.gateway.specs.Replies.{numbers};
 use primitives::Refusal;
-use writers::Written;
+use primitives_put::Written;
 
 // What every answer begins with, and that of a writer is: `used` bytes were read or written.
 #[repr(C)]

@@ -9,8 +9,8 @@ use Rattle.api_versions_request.specs.declared.Text.{Text}
 use Rattle.gateway_api_versions.specs.Replies.{requestNumbers, responseNumbers, textRow}
 use Rattle.gateway_api_versions.specs.declared.RequestNumbers.{RequestNumbers}
 use Rattle.gateway_api_versions.specs.declared.ResponseNumbers.{ResponseNumbers}
-use Rattle.versioned.specs.Cells.{given, versionedCells}
-use Rattle.versioned.specs.declared.Versioned.{Versioned}
+use Rattle.body_reading.specs.Cells.{given, versionedCells}
+use Rattle.body_reading.specs.declared.versioned.Versioned.{Versioned}
 
 -- ---- rows that are lent: any kind but 0 is present
 

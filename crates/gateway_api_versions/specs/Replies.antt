@@ -4,7 +4,7 @@ use mathlib.Core.List.{List, [], _∷_, _++_}
 use Prim.Native.Nat.{ℕ, zero, suc}
 use lib.ListN.{getD}
 use Rattle.layout.specs.Answers.{Answer, accepted, refused}
-use Rattle.versioned.specs.Cells.{versionedRow}
+use Rattle.body_reading.specs.Cells.{versionedRow}
 use Rattle.gateway_api_versions.specs.declared.ResponseNumbers.{ResponseNumbers}
 use Rattle.gateway_api_versions.specs.declared.RequestNumbers.{RequestNumbers}
 

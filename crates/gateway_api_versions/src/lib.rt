@@ -1,4 +1,6 @@
-// The C interface to ApiVersions bodies: each answer as a struct of numbers, of the form that crates/gateway/src/lib.rt has.
+// The C interface to ApiVersions bodies and to version agreement: each answer as a struct of numbers, of the form that crates/gateway/src/lib.rt has.
+
+pub mod agreement;
 pub mod request;
 pub mod response;
 

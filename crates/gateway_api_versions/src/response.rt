@@ -3,20 +3,18 @@ ghost use mathlib.Core.Path.{_≡_};
 ghost use mathlib.Core.List.{[], _∷_};
 ghost use Rattle.layout.specs.Answers.{accepted, readAnswer, writeAnswer};
 ghost use Rattle.layout.specs.Messages.ApiVersions as Api;
-ghost use Rattle.api_versions.specs.Answers.{ofResponse, ofResponseReply};
+ghost use Rattle.api_versions_response.specs.Answers.{ofResponse, ofResponseReply};
 ghost use Rattle.primitives.specs.Answers.{isSet};
 ghost use Rattle.gateway.specs.Replies.{numbers, told};
 ghost use Rattle.gateway_api_versions.specs.Replies.{responseNumbers, responseRow};
 use crate::ResponseNumbers;
-use api_versions::ResponseBody;
-use api_versions::ResponseReply;
-use api_versions::response;
-use api_versions_written::response as writing;
+use api_versions_response::ResponseBody;
+use api_versions_response::ResponseReply;
+use body_reading::cells::given;
+use body_reading::cells::kind;
+use body_reading::cells::of_row;
 use gateway::Numbers;
 use gateway::written;
-use versioned::cells::given;
-use versioned::cells::kind;
-use versioned::cells::of_row;
 
 fn accepted(body: ResponseBody, used: usize) -> ResponseNumbers
     ensures { λ r. ⌜ r ≡ responseNumbers (accepted (ofResponse body) used) ⌝ }
@@ -67,9 +65,9 @@ pub extern "C" fn befrolan_read_api_versions_response(
     ensures { λ r. ⌜ (r, now (items .exit) ∷ now (tags .exit) ∷ []) ≡ told responseNumbers (readAnswer (isSet whole) Api.response version (now (items .entry) ∷ now (tags .entry) ∷ []) (now (msg .entry))) ⌝ }
 {
     if whole == 0 {
-        return reply(response::read(msg, version, items, tags));
+        return reply(api_versions_response::read(msg, version, items, tags));
     }
-    reply(response::read_answer(msg, version, items, tags))
+    reply(api_versions_response::read_answer(msg, version, items, tags))
 }
 
 // ---- written
@@ -97,5 +95,5 @@ pub extern "C" fn befrolan_write_api_versions_response(
 ) -> Numbers
     ensures { λ r. ⌜ (r, now (out .exit)) ≡ told numbers (writeAnswer Api.response version (now (lent .entry)) (responseRow (now (body .entry)) ∷ now (items .entry) ∷ now (tags .entry) ∷ []) (now (out .entry))) ⌝ }
 {
-    written(writing::write(out, version, lent, body_of(body), items, tags))
+    written(api_versions_response::write(out, version, lent, body_of(body), items, tags))
 }

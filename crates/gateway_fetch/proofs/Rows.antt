@@ -5,8 +5,8 @@ use Prim.Native.Nat.{ℕ}
 use lib.ListN.{getD}
 use Rattle.layout.specs.Answers.{accepted, refused}
 use Rattle.layout.specs.Reading.{Refusal}
-use Rattle.versioned.specs.Cells.{given, versionedCells}
-use Rattle.versioned.specs.declared.Versioned.{Versioned}
+use Rattle.body_reading.specs.Cells.{given, versionedCells}
+use Rattle.body_reading.specs.declared.versioned.Versioned.{Versioned}
 use Rattle.gateway.specs.Replies.{numbers}
 use Rattle.gateway.specs.declared.Numbers.{Numbers}
 use Rattle.gateway_fetch.specs.Replies.{fetchNumbers}

@@ -4,7 +4,7 @@ use mathlib.Core.List.{List, [], _++_, _∷_}
 use Prim.Native.Nat.{ℕ}
 use lib.ListN.{getD}
 use Rattle.layout.specs.Answers.{Answer, accepted, refused}
-use Rattle.versioned.specs.Cells.{versionedRow}
+use Rattle.body_reading.specs.Cells.{versionedRow}
 use Rattle.gateway.specs.Replies.{numbers}
 use Rattle.gateway_fetch.specs.declared.FetchNumbers.{FetchNumbers}
 

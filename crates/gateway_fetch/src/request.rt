@@ -6,10 +6,10 @@ ghost use Rattle.layout.specs.Messages.Fetch as Fetch;
 ghost use Rattle.fetch_request.specs.Answers.{ofRequest};
 ghost use Rattle.gateway.specs.Replies.{numbers, told};
 ghost use Rattle.gateway_fetch.specs.Replies.{requestRow};
+use body_reading::cells::of_row;
 use fetch_request::RequestBody;
 use gateway::Numbers;
 use gateway::written;
-use versioned::cells::of_row;
 
 fn body_of(row: &[u64; 8]) -> RequestBody
     ensures { λ r. ⌜ ofRequest r ≡ requestRow (now (row .entry)) ⌝ }

@@ -3,13 +3,13 @@ ghost use mathlib.Core.Path.{_≡_};
 ghost use mathlib.Core.List.{[], _∷_};
 ghost use Rattle.layout.specs.Answers.{accepted, prefixRead};
 ghost use Rattle.layout.specs.Messages.Fetch as Fetch;
-ghost use Rattle.fetch.specs.Answers.{ofResponse, ofResponseReply};
+ghost use Rattle.fetch_response.specs.Answers.{ofResponse, ofResponseReply};
 ghost use Rattle.gateway.specs.Replies.{told};
 ghost use Rattle.gateway_fetch.specs.Replies.{fetchNumbers};
 use crate::FetchNumbers;
-use fetch::ResponseBody;
-use fetch::ResponseReply;
-use versioned::cells;
+use body_reading::cells;
+use fetch_response::ResponseBody;
+use fetch_response::ResponseReply;
 
 fn accepted(body: ResponseBody, used: usize) -> FetchNumbers
     ensures { λ r. ⌜ r ≡ fetchNumbers (accepted (ofResponse body) used) ⌝ }
@@ -48,5 +48,5 @@ pub extern "C" fn befrolan_read_fetch_response(
 ) -> FetchNumbers
     ensures { λ r. ⌜ (r, now (topics .exit) ∷ now (partitions .exit) ∷ now (aborted .exit) ∷ []) ≡ told fetchNumbers (prefixRead Fetch.response version (now (topics .entry) ∷ now (partitions .entry) ∷ now (aborted .entry) ∷ []) (now (msg .entry))) ⌝ }
 {
-    reply(fetch::read(msg, version, topics, partitions, aborted))
+    reply(fetch_response::read(msg, version, topics, partitions, aborted))
 }

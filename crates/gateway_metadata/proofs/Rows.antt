@@ -10,9 +10,9 @@ use mir.Val.{SFits, ofZ, toZ}
 use Rattle.layout.specs.Answers.{accepted, refused}
 use Rattle.layout.specs.Lookup.{Host, lookup}
 use Rattle.layout.specs.Reading.{Refusal}
-use Rattle.fields.specs.declared.Field.{Field}
-use Rattle.versioned.specs.Cells.{fieldCells, given, versionedCells}
-use Rattle.versioned.specs.declared.Versioned.{Versioned}
+use Rattle.primitives.specs.declared.Field.{Field}
+use Rattle.body_reading.specs.Cells.{fieldCells, given, versionedCells}
+use Rattle.body_reading.specs.declared.versioned.Versioned.{Versioned}
 use Rattle.gateway.specs.Replies.{numbers}
 use Rattle.gateway.specs.declared.Numbers.{Numbers}
 use Rattle.gateway_metadata.specs.Replies.{creationRow, hostNumbers, metadataNumbers}

@@ -1,10 +1,10 @@
 // The host of a node, in a message read as a Metadata response.
 ghost use mathlib.Core.Path.{_≡_};
 ghost use Rattle.layout.specs.Lookup.{lookup};
-ghost use Rattle.lookup.specs.Hosts.{ofHost};
+ghost use Rattle.metadata_lookup.specs.Hosts.{ofHost};
 ghost use Rattle.gateway_metadata.specs.Replies.{hostNumbers};
 use crate::HostNumbers;
-use lookup::Host;
+use metadata_lookup::Host;
 
 fn reply(h: Host) -> HostNumbers
     ensures { λ r. ⌜ r ≡ hostNumbers (ofHost h) ⌝ }
@@ -42,5 +42,5 @@ fn reply(h: Host) -> HostNumbers
 pub extern "C" fn befrolan_find_host(msg: &[u8], version: i64, node: u64) -> HostNumbers
     ensures { λ r. ⌜ r ≡ hostNumbers (lookup node version (now (msg .entry))) ⌝ }
 {
-    reply(lookup::host_of(msg, version, node))
+    reply(metadata_lookup::host_of(msg, version, node))
 }

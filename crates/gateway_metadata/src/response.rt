@@ -4,15 +4,15 @@ ghost use mathlib.Core.List.{[], _∷_};
 ghost use lib.ListN.{getD};
 ghost use Rattle.layout.specs.Answers.{accepted, prefixRead};
 ghost use Rattle.layout.specs.Messages.Metadata as Meta;
-ghost use Rattle.versioned.specs.Cells.{fieldCells};
-ghost use Rattle.metadata.specs.Answers.{ofResponse, ofResponseReply};
+ghost use Rattle.body_reading.specs.Cells.{fieldCells};
+ghost use Rattle.metadata_response.specs.Answers.{ofResponse, ofResponseReply};
 ghost use Rattle.gateway.specs.Replies.{told};
 ghost use Rattle.gateway_metadata.specs.Replies.{metadataNumbers};
 use crate::MetadataNumbers;
-use fields::Field;
-use metadata::ResponseBody;
-use metadata::ResponseReply;
-use versioned::cells;
+use body_reading::cells;
+use metadata_response::ResponseBody;
+use metadata_response::ResponseReply;
+use primitives::Field;
 
 // 0 where it is absent, 1 where it is null, 2 where it is there.
 fn kind(f: Field) -> u64
@@ -98,5 +98,5 @@ pub extern "C" fn befrolan_read_metadata_response(
 ) -> MetadataNumbers
     ensures { λ r. ⌜ (r, now (brokers .exit) ∷ now (topics .exit) ∷ now (partitions .exit) ∷ now (replicas .exit) ∷ now (synced .exit) ∷ []) ≡ told metadataNumbers (prefixRead Meta.response version (now (brokers .entry) ∷ now (topics .entry) ∷ now (partitions .entry) ∷ now (replicas .entry) ∷ now (synced .entry) ∷ []) (now (msg .entry))) ⌝ }
 {
-    reply(metadata::read(msg, version, brokers, topics, partitions, replicas, synced))
+    reply(metadata_response::read(msg, version, brokers, topics, partitions, replicas, synced))
 }

@@ -1,4 +1,4 @@
--- The promises determine the replies, with the table. Those of the writers are fixed by gateway/proofs/Unique.
+-- The promises of the entry points determine the replies, with the table. Those of the writers do by `written-unique` of `gateway`.
 use mathlib.Core.Path.{_≡_}
 use Rattle.layout.specs.Tables.{Tables}
 use Rattle.gateway.proofs.Unique.{unique}

@@ -1,7 +1,11 @@
-// The C interface to primitives and tagged fields, each by itself.
+// The C interface to what is no message of its own: primitives by their kind, tagged fields, and the text check. Each answer is a struct of numbers, of the form that crates/gateway/src/lib.rt has.
 
+pub mod kinds;
 pub mod primitive;
+pub mod read_kind;
 pub mod tagged;
+pub mod text;
+pub mod write_kind;
 
 // Tagged fields: the bytes used, and how many tags there are.
 #[repr(C)]

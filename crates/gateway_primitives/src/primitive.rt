@@ -1,15 +1,15 @@
-// Primitives, each by itself: `kind` says which, in the order of `kinds` (kinds/specs/Kinds.antt). A kind that there is not is refused with 1.
+// Primitives, each by itself: `kind` says which, in the order of `kinds` (specs/Kinds.antt). A kind that there is not is refused with 1.
 ghost use mathlib.Core.Path.{_≡_};
-ghost use Rattle.kinds.specs.Kinds.{ofReply, readKind, writeKind};
+ghost use Rattle.gateway_primitives.specs.Kinds.{ofReply, readKind, writeKind};
 ghost use Rattle.primitives.specs.Answers.{isSet};
 ghost use Rattle.gateway.specs.Replies.{numbers, told};
 ghost use Rattle.gateway_primitives.specs.Replies.{primitiveNumbers};
 use crate::PrimitiveNumbers;
+use crate::kinds::Reply;
+use crate::read_kind;
+use crate::write_kind;
 use gateway::Numbers;
 use gateway::written;
-use kinds::Reply;
-use kinds::read;
-use kinds_written as write;
 use primitives::is_set;
 
 // What a reader answers, as numbers.
@@ -47,7 +47,7 @@ fn reply(r: Reply) -> PrimitiveNumbers
 pub extern "C" fn befrolan_read_primitive(msg: &[u8], kind: u64) -> PrimitiveNumbers
     ensures { λ r. ⌜ r ≡ primitiveNumbers (readKind kind (now (msg .entry))) ⌝ }
 {
-    reply(read::primitive(msg, kind))
+    reply(read_kind::primitive(msg, kind))
 }
 
 // `value` is the cell of a number, or a count; `content` is a text or data; `null` is not 0 for null, where the kind has one.
@@ -61,5 +61,5 @@ pub extern "C" fn befrolan_write_primitive(
 ) -> Numbers
     ensures { λ r. ⌜ (r, now (out .exit)) ≡ told numbers (writeKind kind (isSet null) value (now (content .entry)) (now (out .entry))) ⌝ }
 {
-    written(write::primitive(out, kind, is_set(null), value, content))
+    written(write_kind::primitive(out, kind, is_set(null), value, content))
 }

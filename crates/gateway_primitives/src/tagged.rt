@@ -3,13 +3,13 @@ ghost use mathlib.Core.Path.{_≡_};
 ghost use mathlib.Core.List.{[], _∷_};
 ghost use lib.IntN.{pos};
 ghost use Rattle.layout.specs.Answers.{prefixRead, tagsAlone, writeAnswer};
-ghost use Rattle.tags.specs.Answers.{ofTagged};
+ghost use Rattle.tagged_fields.specs.Read.{ofTagged};
 ghost use Rattle.gateway.specs.Replies.{numbers, told};
 ghost use Rattle.gateway_primitives.specs.Replies.{tagsNumbers};
 use crate::TagsNumbers;
 use gateway::Numbers;
 use gateway::written;
-use tags::Tagged;
+use tagged_fields::reading::Tagged;
 
 // What a reader answers, as numbers.
 fn reply(r: Tagged) -> TagsNumbers
@@ -37,7 +37,7 @@ fn reply(r: Tagged) -> TagsNumbers
 pub extern "C" fn befrolan_read_tagged_fields(msg: &[u8], table: &mut [u64]) -> TagsNumbers
     ensures { λ r. ⌜ (r, now (table .exit) ∷ []) ≡ told tagsNumbers (prefixRead tagsAlone (pos 0) (now (table .entry) ∷ []) (now (msg .entry))) ⌝ }
 {
-    reply(tags::tagged_fields(msg, table))
+    reply(tagged_fields::reading::tagged_fields(msg, table))
 }
 
 // `count` is the number of tags, the cell of -1 for unset; data are parts of `lent`.
@@ -50,5 +50,5 @@ pub extern "C" fn befrolan_write_tagged_fields(
 ) -> Numbers
     ensures { λ r. ⌜ (r, now (out .exit)) ≡ told numbers (writeAnswer tagsAlone (pos 0) (now (lent .entry)) ((count ∷ []) ∷ now (table .entry) ∷ []) (now (out .entry))) ⌝ }
 {
-    written(tags_written::tagged_fields(out, lent, count, table))
+    written(tagged_fields::writing::tagged_fields(out, lent, count, table))
 }

@@ -1,10 +1,9 @@
--- What holds of every layout. Nothing here has to be believed: it is proved.
-
--- tools: tests of numbers, a reader's steps backward, sums, what holds of all texts of a value
+-- tools: tests of numbers, a reader's steps backward, sums, what holds of all texts of a value, the rows of a table
 pub mod Tests
 pub mod Steps
 pub mod Every
 pub mod Sums
+pub mod Chunks
 -- primitives: numbers as cells, zigzag, text by the grammar
 pub mod Cells
 pub mod Zigzag

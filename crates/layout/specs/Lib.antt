@@ -1,5 +1,3 @@
--- What Kafka's bodies are. A reader has to believe the files listed here, and nothing else; laws about them stand in proofs/.
-
 -- readers, and what they refuse
 pub mod Reading
 -- text by RFC 3629

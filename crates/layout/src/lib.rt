@@ -1,1 +1,1 @@
-// Definitions and laws alone: specs/ has what a reader must believe, proofs/ what follows.
+// The definition of all bodies, and its laws: specs/ has what a person must believe, proofs/ what follows. No code.

@@ -19,23 +19,23 @@ use Rattle.layout.specs.Tables.{arrays, asked, basicOf, chosen, chunks, count, 
 use Rattle.layout.specs.Write.{basicFault, fault, firstOf, or, tooLong, unless, write, writeBasic}
 use Rattle.layout.proofs.Proper.{both}
 use Rattle.layout.proofs.Tests.{lt-false, lt-true, of-eq}
-use Rattle.rows.specs.Step.{Capped, cap}
-use Rattle.rows.specs.Writes.{bytesAt, countedBytes, faultAt, refusalOf, rowBytes, rowFault, rowsBytes, rowsFault}
-use Rattle.rows.proofs.Capped.{capped, capped-as, capped-behind}
-use Rattle.rows.proofs.Faults.{or-none}
-use Rattle.rows.proofs.Flat.{Flat}
-use Rattle.rows.proofs.Reply.{up-to-four}
-use Rattle.rows.proofs.Step.{step-nothing}
-use Rattle.rows.proofs.Writes.{all-bytes, array-null, refusal-bad, refusal-good, refusal-none, then-bytes, then-fault}
+use Rattle.primitives_put.specs.Step.{Capped, cap}
+use Rattle.body_writing.specs.Writes.{bytesAt, countedBytes, faultAt, refusalOf, rowBytes, rowFault, rowsBytes, rowsFault}
+use Rattle.primitives_put.proofs.Capped.{capped, capped-as, capped-behind}
+use Rattle.body_writing.proofs.Faults.{or-none}
+use Rattle.body_reading.proofs.Flat.{Flat}
+use Rattle.body_reading.proofs.Reply.{up-to-four}
+use Rattle.primitives_put.proofs.Step.{step-nothing}
+use Rattle.body_writing.proofs.Writes.{all-bytes, array-null, refusal-bad, refusal-good, refusal-none, then-bytes, then-fault}
 use Rattle.primitives.specs.Answers.{versionOf}
-use Rattle.put.specs.declared.Form.{Form}
-use Rattle.put.specs.Put.{Put, behindLength, sizeOf}
-use Rattle.put.proofs.Rows.{counted-put, null-put, string-put}
-use Rattle.put.proofs.Stored.{put-step}
-use Rattle.ranges.specs.Asked.{allRanged, ranged, stringFault}
-use Rattle.ranges.proofs.Counts.{rows-other, rows-same}
-use Rattle.ranges.proofs.Lent.{good-one, string-told}
-use Rattle.writers.proofs.Called.{called}
+use Rattle.primitives_put.specs.declared.Form.{Form}
+use Rattle.primitives_put.specs.Put.{Put, behindLength, sizeOf}
+use Rattle.body_writing.proofs.Rows.{counted-put, null-put, string-put}
+use Rattle.primitives_put.proofs.Stored.{put-step}
+use Rattle.body_writing.specs.Asked.{allRanged, ranged, stringFault}
+use Rattle.body_writing.proofs.Counts.{rows-other, rows-same}
+use Rattle.body_writing.proofs.Lent.{good-one, string-told}
+use Rattle.body_writing.proofs.Called.{called}
 use Rattle.metadata_request.specs.Answers.{ofCreation}
 use Rattle.metadata_request.specs.declared.Creation.{Creation}
 use Rattle.metadata_request.specs.Shapes.{creationField, creationShape, nameShape, requestShape, topicsShape}

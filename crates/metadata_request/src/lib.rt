@@ -2,10 +2,9 @@
 // Numbers are cells, as in the tables: 64 bits, two's complement.
 
 mod judge;
-mod texts;
 mod writing;
 
-pub use writing::write;
+pub use crate::writing::write;
 
 // Whether the broker may create topics: a writer may leave it unset, and then it may.
 pub enum Creation {

@@ -10,23 +10,23 @@ ghost use Rattle.layout.specs.Primitives.{fixed, kept, w32};
 ghost use Rattle.layout.specs.Rows as Rows;
 ghost use Rattle.layout.specs.Tables as Tables;
 ghost use Rattle.layout.specs.Tables.{rowsOf};
-ghost use Rattle.rows.specs.Step.{Capped};
-ghost use Rattle.rows.specs.Writes.{bytesAt, countedBytes, refusalOf, rowBytes, rowsBytes};
-ghost use Rattle.writers.specs.Answers.{replied};
+ghost use Rattle.primitives_put.specs.Step.{Capped};
+ghost use Rattle.body_writing.specs.Writes.{bytesAt, countedBytes, refusalOf, rowBytes, rowsBytes};
+ghost use Rattle.primitives_put.specs.Answers.{replied};
 ghost use Rattle.metadata_request.specs.Answers.{ofCreation, ofRequest};
 ghost use Rattle.metadata_request.specs.Shapes.{creationField, creationShape, nameShape, requestShape, topicsShape};
 use crate::Creation;
 use crate::RequestBody;
 use crate::judge::refusal;
+use body_writing::ranges::part;
 use primitives::MOST;
 use primitives::NO_VERSION;
 use primitives::TOO_LONG;
 use primitives::at;
 use primitives::no_room;
 use primitives::version_of;
-use put::Form;
-use ranges::part;
-use writers::Written;
+use primitives_put::Form;
+use primitives_put::Written;
 
 // ---- the walk
 
@@ -34,7 +34,7 @@ fn name(out: &mut [u8], lent: &[u8], topics: &[u64], i: usize) -> usize
     requires { ⌜ i < length (now topics) / 2 ⌝ }
     ensures { λ r. ⌜ Capped (rowBytes (now (lent .entry)) nameShape (getD (rowsOf 2 (now (topics .entry))) i [])) (now (out .entry)) r (now (out .exit)) ⌝ }
 {
-    put::sized(
+    primitives_put::sized(
         out,
         Form::Int16,
         part(lent, topics[i * 2], topics[i * 2 + 1]),
@@ -49,9 +49,9 @@ fn names(out: &mut [u8], lent: &[u8], topics: &[u64]) -> usize
     let mut done: usize = 0;
     let mut i: usize = 0;
     while i < n {
-        let p = put::behind(done, out.len());
+        let p = primitives_put::behind(done, out.len());
         let more = name(&mut out[p..], lent, topics, i);
-        done = put::add(done, more);
+        done = primitives_put::add(done, more);
         i = i + 1;
     }
     done
@@ -61,10 +61,10 @@ fn names(out: &mut [u8], lent: &[u8], topics: &[u64]) -> usize
 fn array(out: &mut [u8], lent: &[u8], topics: &[u64]) -> usize
     ensures { λ r. ⌜ Capped (countedBytes (now (lent .entry)) nameShape (fixed w32 kept) 2 (now (topics .entry))) (now (out .entry)) r (now (out .exit)) ⌝ }
 {
-    let a = put::length(out, Form::Int32, (topics.len() / 2) as u64);
-    let p = put::behind(a, out.len());
+    let a = primitives_put::length(out, Form::Int32, (topics.len() / 2) as u64);
+    let p = primitives_put::behind(a, out.len());
     let b = names(&mut out[p..], lent, topics);
-    put::add(a, b)
+    primitives_put::add(a, b)
 }
 
 // A count of -1 is null, which is not the same as no names.
@@ -73,7 +73,7 @@ fn asked(out: &mut [u8], lent: &[u8], count: u64, topics: &[u64]) -> usize
     ensures { λ r. ⌜ Capped (bytesAt (now (lent .entry)) (topicsShape Rows.end) 0 ((count ∷ []) ∷ now (topics .entry) ∷ [])) (now (out .entry)) r (now (out .exit)) ⌝ }
 {
     if count == 18446744073709551615 {
-        return put::null(out, Form::Int32);
+        return primitives_put::null(out, Form::Int32);
     }
     array(out, lent, topics)
 }
@@ -83,7 +83,7 @@ fn creation(out: &mut [u8], has: bool, flag: bool) -> usize
     ensures { λ r. ⌜ Capped (rowBytes [] (creationShape has) (2 ∷ cond flag 1 0 ∷ [])) (now (out .entry)) r (now (out .exit)) ⌝ }
 {
     if has {
-        return put::boolean(out, flag);
+        return primitives_put::boolean(out, flag);
     }
     0
 }
@@ -93,9 +93,9 @@ fn body(out: &mut [u8], has: bool, lent: &[u8], count: u64, flag: bool, topics: 
     ensures { λ r. ⌜ Capped (bytesAt (now (lent .entry)) (requestShape has) 0 ((count ∷ 2 ∷ cond flag 1 0 ∷ []) ∷ now (topics .entry) ∷ [])) (now (out .entry)) r (now (out .exit)) ⌝ }
 {
     let a = asked(out, lent, count, topics);
-    let p = put::behind(a, out.len());
+    let p = primitives_put::behind(a, out.len());
     let b = creation(&mut out[p..], has, flag);
-    put::add(a, b)
+    primitives_put::add(a, b)
 }
 
 // ---- the call

@@ -1,18 +1,18 @@
--- Laws that the functions' proofs cite, one over each thing that varies.
-
--- big-endian numbers, and what a cell's reader gives
+-- big-endian numbers, and what a cell's reader gives; signed numbers
 pub mod Cells
--- the loop of an unsigned varint
-pub mod Varint
--- signed numbers
 pub mod Signed
+-- the loop of an unsigned varint, and zigzag
+pub mod Varint
+pub mod Zigzag
+-- lengths and counts, what is after them, and what is left of a slice
+pub mod LengthsRead
+pub mod Behind
+pub mod Rest
+-- versions, and a Boolean as a number
+pub mod Versions
+pub mod Set
 -- a primitive called by itself
 pub mod Alone
--- zigzag
-pub mod Zigzag
--- a promise determines the reply
+-- a promise determines the reply: numbers, and counts, data and texts
 pub mod Unique
--- versions
-pub mod Versions
--- a Boolean as a number
-pub mod Set
+pub mod UniqueParts

@@ -1,4 +1,4 @@
--- A call's promise determines its reply: what an enum says in the definition's words gives the enum back. One law for all calls that answer with it.
+-- The promise of a call that answers with a number determines its reply: what an enum says in the definition's words gives the enum back. One law for all calls that answer with it.
 use mathlib.Core.Bool.{Bool}
 use mathlib.Core.Path.{_∙_, _≡_, ap, refl, sym}
 use Prim.Native.Nat.{ℕ}

@@ -1,4 +1,4 @@
--- What the answers of the calls say in the definition's words: the number and values of docs/RULES.md for each case of each enum.
+-- What the answers about numbers say in the definition's words: the number and values of docs/RULES.md for each case of each enum. And refusals, versions and Booleans, which all calls share.
 use Prim.Native.Nat.{_%_, _*_, _+_, _<_, _^_, suc, zero, ℕ}
 use lib.Dec.{ltb}
 use lib.IntN.{negsuc, pos, ℤ}

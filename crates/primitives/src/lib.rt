@@ -1,11 +1,15 @@
-// Kafka's numbers at the front of what is left of a message (`numbers`); and what all calls share: the size that is taken, and refusals.
-// The calls on a number by itself, which judge the message's size too, are the crate `read_numbers`.
+// A primitive read at the front of what is left of a message; and what all calls share: refusals, versions, and the size that is taken.
+// `numbers`, `lengths`, `parts` and `texts` read, `shown` hands out a part of a message. Each primitive by itself, with the message's size checked first, is in `primitives_calls`.
 ghost use mathlib.Core.Path.{_≡_};
 ghost use Rattle.layout.specs.Reading.{because};
 ghost use Rattle.primitives.specs.Answers.{isSet, noRoom, ofRefusal, versionOf};
 
+pub mod lengths;
 pub mod numbers;
-pub mod read;
+pub mod parts;
+pub mod shown;
+pub mod signs;
+pub mod texts;
 
 // The numbers of docs/RULES.md, section 10.
 pub const NO_VERSION: u8 = 1;
@@ -100,4 +104,34 @@ pub fn is_set(n: u64) -> bool
         return false;
     }
     true
+}
+
+// A length or count: null, or how many; and the bytes used.
+pub enum Count {
+    Null { used: usize },
+    Took { count: u64, used: usize },
+    Refused(Refusal),
+}
+
+// A text or data as a part of the message, and the bytes used.
+pub enum Part {
+    Took {
+        start: usize,
+        len: usize,
+        used: usize,
+    },
+    Refused(Refusal),
+}
+
+// A text or data that a version may lack and that may be null.
+pub enum Field {
+    Absent,
+    Null,
+    Present { start: usize, len: usize },
+}
+
+// A field, and the bytes used.
+pub enum Nullable {
+    Took { field: Field, used: usize },
+    Refused(Refusal),
 }

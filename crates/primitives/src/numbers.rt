@@ -5,7 +5,7 @@ ghost use Prim.Native.Nat.{_*_, _+_, _<_, _^_, _≤_};
 ghost use lib.Dec.{ltb};
 ghost use lib.ListN.{length, take};
 ghost use Rattle.layout.specs.Reading.{bad, because};
-ghost use Rattle.layout.specs.Primitives.{be, cell, flag, int, unsigned, w8, w16, w32, w64};
+ghost use Rattle.layout.specs.Primitives.{be, cell, flag, int, unsigned, w16, w32, w64, w8};
 ghost use Rattle.primitives.specs.Answers.{Below, ofExtended, ofFlag, ofNumber, tenthByte};
 use crate::BYTES_END;
 use crate::Flag;
@@ -41,7 +41,7 @@ fn eight(s: &[u8]) -> u64
 }
 
 // Not negative, as lengths are looked at.
-pub fn uint16(s: &[u8]) -> Number
+pub(crate) fn uint16(s: &[u8]) -> Number
     ensures { λ r. ⌜ ofNumber r ≡ int 2 0 (now (s .entry)) ⌝ }
 {
     if s.len() < 2 {
@@ -53,7 +53,7 @@ pub fn uint16(s: &[u8]) -> Number
     }
 }
 
-pub fn uint32(s: &[u8]) -> Number
+pub(crate) fn uint32(s: &[u8]) -> Number
     ensures { λ r. ⌜ ofNumber r ≡ int 4 0 (now (s .entry)) ⌝ }
 {
     if s.len() < 4 {

@@ -1,4 +1,4 @@
-// Well-formed UTF-8: how much of a text is, and whether all of it is.
+// The text check: how much of a text is well-formed UTF-8, and whether all of it is.
 mod classes;
 
 use classes::CLASSES;

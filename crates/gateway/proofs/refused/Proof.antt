@@ -4,11 +4,9 @@ use borrow.Author.Needs.{needs}
 use Rattle.gateway.proofs.refused.Statement.{statement}
 use Rattle.gateway.proofs.refused.Tie as tie
 
-cast-t2 : tie.Need-cast-t2
-cast-t2 c = search needs
-
 returns : tie.Need-returns
 returns c = refl
 
 pub refused-spec : {M : Type 1} → statement M
-refused-spec = tie.close (tie.spec cast-t2 returns)
+refused-spec = tie.close (tie.spec
+    (λ c. search needs) returns)

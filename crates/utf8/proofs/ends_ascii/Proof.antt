@@ -4,15 +4,6 @@ use borrow.Author.Needs.{needs}
 use Rattle.utf8.proofs.ends_ascii.Statement.{statement}
 use Rattle.utf8.proofs.ends_ascii.Tie as tie
 
-sub-if2 : tie.Need-sub-if2
-sub-if2 c = search needs
-
-sub-is-ascii : tie.Need-sub-is-ascii
-sub-is-ascii c = search needs
-
-is-ascii-requires : tie.Need-is-ascii-requires
-is-ascii-requires c κs = search needs
-
 returns : tie.Need-returns
 returns c = ended-eight _ _ _ (c .before .before .before .before .pre) (c .before .before .if1 .taken) (c .before .if2 .taken) (c .is-ascii .ensures)
 
@@ -24,4 +15,5 @@ returns-3 c = not-ended _
 
 pub ends-ascii-spec : {M : Type 1} → statement M
 ends-ascii-spec =
-    tie.close (tie.spec sub-if2 sub-is-ascii is-ascii-requires returns returns-2 returns-3)
+    tie.close (tie.spec
+    (λ c. search needs) (λ c. search needs) (λ c κs. search needs) returns returns-2 returns-3)

@@ -6,12 +6,10 @@ use Rattle.layout.specs.Utf8.{utf8}
 use Rattle.utf8.proofs.is_text.Statement.{statement}
 use Rattle.utf8.proofs.is_text.Tie as tie
 
-well-formed-requires : tie.Need-well-formed-requires
-well-formed-requires c κs = search needs
-
 returns : tie.Need-returns
 unfolding utf8
 returns c = ap (λ n. eqb n (length (c .before .before .args .s .now))) (c .well-formed .ensures)
 
 pub is-text-spec : {M : Type 1} → statement M
-is-text-spec = tie.close (tie.spec well-formed-requires returns)
+is-text-spec = tie.close (tie.spec
+    (λ c κs. search needs) returns)

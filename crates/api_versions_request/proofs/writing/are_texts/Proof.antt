@@ -1,6 +1,6 @@
 -- A version that lacks the texts asks nothing of them.
 use borrow.Author.Tests.{not-false, not-true}
-use Rattle.rows.proofs.Judged.{and-first, and-second, if-lacking, if-there}
+use Rattle.body_writing.proofs.Judged.{and-first, and-second, if-lacking, if-there}
 use borrow.Author.Needs.{needs}
 use Rattle.api_versions_request.proofs.writing.are_texts.Statement.{statement}
 use Rattle.api_versions_request.proofs.writing.are_texts.Tie as tie

@@ -1,6 +1,6 @@
 -- A version that lacks the fields writes nothing; else the tags go to the rest behind the texts.
 use borrow.Author.Tests.{not-false, not-true}
-use Rattle.rows.proofs.Capped.{capped-lacking}
+use Rattle.primitives_put.proofs.Capped.{capped-lacking}
 use Rattle.api_versions_request.proofs.Request.{request-put}
 use borrow.Author.Needs.{needs}
 use Rattle.api_versions_request.proofs.writing.body.Statement.{statement}

@@ -1,7 +1,7 @@
 -- 13 comes before 7.
 use native.Mathlib.Omega.{arith}
 use borrow.Author.Tests.{not-false, not-true}
-use Rattle.rows.proofs.Faults.{unless-bad, unless-none}
+use Rattle.body_writing.proofs.Faults.{unless-bad, unless-none}
 use Rattle.api_versions_request.proofs.Request.{fault-bad, is-told}
 use borrow.Author.Needs.{needs}
 use Rattle.api_versions_request.proofs.writing.refusal.Statement.{statement}

@@ -1,5 +1,5 @@
 -- The walk's bytes are measured, judged and written.
-use Rattle.writers.proofs.Measured.{measured-long, measured-short, measured-written}
+use Rattle.primitives_put.proofs.Measured.{measured-long, measured-short, measured-written}
 use borrow.Author.Needs.{needs}
 use Rattle.api_versions_request.proofs.writing.stored.Statement.{statement}
 use Rattle.api_versions_request.proofs.writing.stored.Tie as tie

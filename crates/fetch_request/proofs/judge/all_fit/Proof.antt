@@ -4,8 +4,8 @@ use borrow.Author.Tests.{not-false, not-true}
 use mathlib.Core.Path.{_∙_}
 use native.Mathlib.Omega.{arith}
 use Prim.Native.Nat.{_-_}
-use Rattle.rows.proofs.Faults.{rows-clean}
-use Rattle.rows.proofs.Judged.{Judged, judged-end, judged-more, judged-start, judged-stop}
+use Rattle.body_writing.proofs.Faults.{rows-clean}
+use Rattle.body_writing.proofs.Judged.{Judged, judged-end, judged-more, judged-start, judged-stop}
 use Rattle.fetch_request.proofs.Fits.{clean, partition-told}
 use Rattle.fetch_request.proofs.judge.all_fit.Statement.{statement}
 use Rattle.fetch_request.proofs.judge.all_fit.Tie as tie

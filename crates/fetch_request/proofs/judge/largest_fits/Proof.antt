@@ -1,7 +1,7 @@
 -- A version that lacks the field asks nothing of it.
 use borrow.Author.Needs.{needs}
 use mathlib.Core.Path.{_∙_}
-use Rattle.rows.proofs.Judged.{if-lacking, if-there}
+use Rattle.body_writing.proofs.Judged.{if-lacking, if-there}
 use Rattle.fetch_request.proofs.Fits.{is-held}
 use Rattle.fetch_request.proofs.judge.largest_fits.Statement.{statement}
 use Rattle.fetch_request.proofs.judge.largest_fits.Tie as tie

@@ -1,6 +1,6 @@
 -- A version that lacks the field asks nothing of it.
 use mathlib.Core.Path.{refl}
-use Rattle.rows.proofs.Judged.{if-lacking, if-there}
+use Rattle.body_writing.proofs.Judged.{if-lacking, if-there}
 use Rattle.fetch_request.proofs.judge.level_fits.Statement.{statement}
 use Rattle.fetch_request.proofs.judge.level_fits.Tie as tie
 

@@ -1,7 +1,7 @@
 -- Both must hold.
 use borrow.Author.Needs.{needs}
 use borrow.Author.Tests.{not-false, not-true}
-use Rattle.rows.proofs.Judged.{and-first, and-second}
+use Rattle.body_writing.proofs.Judged.{and-first, and-second}
 use Rattle.fetch_request.proofs.judge.limits_fit.Statement.{statement}
 use Rattle.fetch_request.proofs.judge.limits_fit.Tie as tie
 

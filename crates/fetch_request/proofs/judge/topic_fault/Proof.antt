@@ -3,7 +3,7 @@ use native.Mathlib.Omega.{arith}
 use lib.ListN.{length-take}
 use borrow.Author.Tests.{not-false, not-true}
 use borrow.Author.Needs.{needs}
-use Rattle.rows.proofs.Faults.{unless-bad, unless-none}
+use Rattle.body_writing.proofs.Faults.{unless-bad, unless-none}
 use Rattle.fetch_request.proofs.Topic.{topic-name, topic-partitions}
 use Rattle.fetch_request.proofs.judge.topic_fault.Statement.{statement}
 use Rattle.fetch_request.proofs.judge.topic_fault.Tie as tie

@@ -3,7 +3,7 @@ use borrow.Author.Needs.{needs}
 use native.Mathlib.Omega.{arith}
 use lib.ListN.{length}
 use Rattle.fetch_request.proofs.Walk.{topicNest}
-use Rattle.rows.proofs.Nested.{Clearing, clearing-end, clearing-enough, clearing-more, clearing-start, clearing-stop}
+use Rattle.body_writing.proofs.Nested.{Clearing, clearing-end, clearing-enough, clearing-more, clearing-start, clearing-stop}
 use Rattle.fetch_request.proofs.judge.topics_fault.Statement.{statement}
 use Rattle.fetch_request.proofs.judge.topics_fault.Tie as tie
 

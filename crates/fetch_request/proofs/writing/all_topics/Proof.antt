@@ -3,7 +3,7 @@ use borrow.Author.Needs.{needs}
 use native.Mathlib.Omega.{arith}
 use lib.ListN.{length}
 use Rattle.fetch_request.proofs.Walk.{topicNest}
-use Rattle.rows.proofs.Nested.{Going, going-end, going-enough, going-more, going-start}
+use Rattle.body_writing.proofs.Nested.{Going, going-end, going-enough, going-more, going-start}
 use Rattle.fetch_request.proofs.writing.all_topics.Statement.{statement}
 use Rattle.fetch_request.proofs.writing.all_topics.Tie as tie
 

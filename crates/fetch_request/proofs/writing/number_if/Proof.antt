@@ -1,6 +1,6 @@
 -- A version that lacks the field writes nothing.
-use Rattle.rows.proofs.Capped.{capped, capped-lacking, capped-there}
-use Rattle.put.proofs.Stored.{put-step}
+use Rattle.primitives_put.proofs.Capped.{capped, capped-lacking, capped-there}
+use Rattle.primitives_put.proofs.Stored.{put-step}
 use borrow.Author.Needs.{needs}
 use Rattle.fetch_request.proofs.writing.number_if.Statement.{statement}
 use Rattle.fetch_request.proofs.writing.number_if.Tie as tie

@@ -1,7 +1,7 @@
 -- Three numbers at their places, where there is room for them.
 use mathlib.Core.Path.{refl}
 use Rattle.fetch_request.proofs.Walk.{partition-wide, partition-put}
-use Rattle.put.proofs.Even.{front-none}
+use Rattle.body_writing.proofs.Even.{front-none}
 use borrow.Author.Needs.{needs}
 use Rattle.fetch_request.proofs.writing.partition.Statement.{statement}
 use Rattle.fetch_request.proofs.writing.partition.Tie as tie

@@ -1,7 +1,7 @@
 -- The rows fill the front of the output, or have no room in it.
 use mathlib.Core.Path.{sym}
 use lib.Seq.{length-take-le}
-use Rattle.put.proofs.Even.{front-all, front-none}
+use Rattle.body_writing.proofs.Even.{front-all, front-none}
 use Rattle.fetch_request.proofs.Walk.{partitions-wide}
 use borrow.Author.Needs.{needs}
 use Rattle.fetch_request.proofs.writing.partitions.Statement.{statement}

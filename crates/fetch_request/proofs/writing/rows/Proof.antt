@@ -5,9 +5,9 @@ use native.Mathlib.Omega.{arith}
 use lib.Dec.{lit<}
 use lib.ListN.{length}
 use mathlib.Core.List.{[]}
-use Rattle.rows.specs.Writes.{rowBytes, rowsBytes}
+use Rattle.body_writing.specs.Writes.{rowBytes, rowsBytes}
 use Rattle.fetch_request.specs.Shapes.{partitionShape}
-use Rattle.put.proofs.Even.{Even, even-end, even-inside, even-left, even-more, even-start}
+use Rattle.body_writing.proofs.Even.{Even, even-end, even-inside, even-left, even-more, even-start}
 use Rattle.fetch_request.proofs.Walk.{first-row, last-row, partition-wide, second-left, second-room}
 use Rattle.fetch_request.proofs.writing.rows.Statement.{statement}
 use Rattle.fetch_request.proofs.writing.rows.Tie as tie

@@ -1,5 +1,5 @@
 -- The most bytes that it can have fit.
-use Rattle.writers.proofs.Measured.{written-once}
+use Rattle.primitives_put.proofs.Measured.{written-once}
 use Rattle.fetch_request.proofs.Most.{most-told}
 use native.Mathlib.Omega.{arith}
 use borrow.Author.Needs.{needs}

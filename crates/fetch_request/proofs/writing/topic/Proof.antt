@@ -1,5 +1,5 @@
 -- The topic's partitions go to the rest behind its name, where there is room for both.
-use Rattle.put.proofs.Even.{front-none}
+use Rattle.body_writing.proofs.Even.{front-none}
 use Rattle.fetch_request.proofs.Walk.{topic-put, topic-wide}
 use lib.Seq.{length-take-le}
 use mathlib.Core.Path.{sym}

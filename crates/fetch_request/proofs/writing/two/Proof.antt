@@ -1,5 +1,5 @@
 -- The second goes to the rest behind the first.
-use Rattle.put.proofs.Stored.{two-put}
+use Rattle.primitives_put.proofs.Stored.{two-put}
 use borrow.Author.Needs.{needs}
 use Rattle.fetch_request.proofs.writing.two.Statement.{statement}
 use Rattle.fetch_request.proofs.writing.two.Tie as tie

@@ -1,5 +1,5 @@
 -- A number refuses; and else the bytes are stored.
-use Rattle.writers.proofs.Answer.{answered-alone, refused-alone}
+use Rattle.primitives_put.proofs.Answer.{answered-alone, refused-alone}
 use Rattle.fetch_request.proofs.OwnRow.{fault-good, good-enough}
 use borrow.Author.Needs.{needs}
 use Rattle.fetch_request.proofs.writing.written.Statement.{statement}

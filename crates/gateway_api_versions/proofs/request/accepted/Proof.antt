@@ -4,24 +4,6 @@ use Rattle.gateway_api_versions.proofs.Rows.{texts-told}
 use Rattle.gateway_api_versions.proofs.request.accepted.Statement.{statement}
 use Rattle.gateway_api_versions.proofs.request.accepted.Tie as tie
 
-kind-requires : tie.Need-kind-requires
-kind-requires c κs = search needs
-
-start-requires : tie.Need-start-requires
-start-requires c κs = search needs
-
-length-requires : tie.Need-length-requires
-length-requires c κs = search needs
-
-kind-requires-2 : tie.Need-kind-requires-2
-kind-requires-2 c κs = search needs
-
-start-requires-2 : tie.Need-start-requires-2
-start-requires-2 c κs = search needs
-
-length-requires-2 : tie.Need-length-requires-2
-length-requires-2 c κs = search needs
-
 returns : tie.Need-returns
 returns c = texts-told (c .before .before .before .before .before .before .args .body .name) (c .before .before .before .before .before .before .args .body .version) _ _ _ _ _ _ _ _ (c .before .before .before .before .before .kind .ensures) (c .before .before .before .before .start .ensures) (c .before .before .before .length .ensures) (c .before .before .kind2 .ensures) (c .before .start2 .ensures) (c .length2 .ensures)
 
@@ -29,10 +11,4 @@ pub accepted-spec : {M : Type 1} → statement M
 accepted-spec =
     tie.close
     (tie.spec
-    kind-requires
-    start-requires
-    length-requires
-    kind-requires-2
-    start-requires-2
-    length-requires-2
-    returns)
+    (λ c κs. search needs) (λ c κs. search needs) (λ c κs. search needs) (λ c κs. search needs) (λ c κs. search needs) (λ c κs. search needs) returns)

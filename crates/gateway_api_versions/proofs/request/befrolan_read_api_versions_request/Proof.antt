@@ -6,18 +6,10 @@ use Rattle.gateway_api_versions.specs.Replies.{requestNumbers}
 use Rattle.gateway_api_versions.proofs.request.befrolan_read_api_versions_request.Statement.{statement}
 use Rattle.gateway_api_versions.proofs.request.befrolan_read_api_versions_request.Tie as tie
 
-read-requires : tie.Need-read-requires
-read-requires c κs = search needs
-
-reply-requires : tie.Need-reply-requires
-reply-requires c κs = search needs
-
-same-length : tie.Need-same-length
-same-length c = search needs
-
 returns : tie.Need-returns
 returns c = prefix-told requestNumbers _ _ (c .reply .ensures) Api.request _ (c .before .before .before .before .before .before .before .fits .version) _ _ _ (c .before .before .before .read .ensures)
 
 pub befrolan-read-api-versions-request-spec : {M : Type 1} → statement M
 befrolan-read-api-versions-request-spec =
-    tie.close (tie.spec read-requires reply-requires same-length returns)
+    tie.close (tie.spec
+    (λ c κs. search needs) (λ c κs. search needs) (λ c. search needs) returns)

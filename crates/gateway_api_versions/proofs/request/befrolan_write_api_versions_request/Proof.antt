@@ -6,21 +6,10 @@ use Rattle.gateway.specs.Replies.{numbers}
 use Rattle.gateway_api_versions.proofs.request.befrolan_write_api_versions_request.Statement.{statement}
 use Rattle.gateway_api_versions.proofs.request.befrolan_write_api_versions_request.Tie as tie
 
-body-of-requires : tie.Need-body-of-requires
-body-of-requires c κs = search needs
-
-write-requires : tie.Need-write-requires
-write-requires c κs = search needs
-
-written-requires : tie.Need-written-requires
-written-requires c κs = search needs
-
-same-length : tie.Need-same-length
-same-length c = search needs
-
 returns : tie.Need-returns
 returns c = write-told numbers _ _ (c .written .ensures) Api.request _ (c .before .before .before .before .before .before .before .before .before .fits .version) _ _ _ _ _ _ (c .before .before .before .before .body-of .ensures) (c .before .before .before .write .ensures)
 
 pub befrolan-write-api-versions-request-spec : {M : Type 1} → statement M
 befrolan-write-api-versions-request-spec =
-    tie.close (tie.spec body-of-requires write-requires written-requires same-length returns)
+    tie.close (tie.spec
+    (λ c κs. search needs) (λ c κs. search needs) (λ c κs. search needs) (λ c. search needs) returns)

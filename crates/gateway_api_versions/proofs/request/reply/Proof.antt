@@ -7,18 +7,6 @@ use Rattle.gateway_api_versions.specs.Replies.{requestNumbers}
 use Rattle.gateway_api_versions.proofs.request.reply.Statement.{statement}
 use Rattle.gateway_api_versions.proofs.request.reply.Tie as tie
 
-enum-known-r : tie.Need-enum-known-r
-enum-known-r c = search needs
-
-accepted-requires : tie.Need-accepted-requires
-accepted-requires c κs = search needs
-
-enum-known-r-2 : tie.Need-enum-known-r-2
-enum-known-r-2 c = search needs
-
-cast-t6 : tie.Need-cast-t6
-cast-t6 c = search needs
-
 returns : tie.Need-returns
 returns c = c .accepted .ensures ∙ ap (λ (x : RequestReply). requestNumbers (ofRequestReply x)) (sym (c .before .before .r .given .1))
 
@@ -27,4 +15,5 @@ returns-2 c = ap (λ (x : RequestReply). requestNumbers (ofRequestReply x)) (sym
 
 pub reply-spec : {M : Type 1} → statement M
 reply-spec =
-    tie.close (tie.spec enum-known-r accepted-requires enum-known-r-2 cast-t6 returns returns-2)
+    tie.close (tie.spec
+    (λ c. search needs) (λ c κs. search needs) (λ c. search needs) (λ c. search needs) returns returns-2)

@@ -1,23 +1,11 @@
 -- Each case of the enum has its numbers in the definition.
 use mathlib.Core.Path.{_∙_, ap, sym}
 use borrow.Author.Needs.{needs}
-use Rattle.api_versions.specs.Answers.{ofResponseReply}
-use Rattle.api_versions.specs.declared.ResponseReply.{ResponseReply}
+use Rattle.api_versions_response.specs.Answers.{ofResponseReply}
+use Rattle.api_versions_response.specs.declared.ResponseReply.{ResponseReply}
 use Rattle.gateway_api_versions.specs.Replies.{responseNumbers}
 use Rattle.gateway_api_versions.proofs.response.reply.Statement.{statement}
 use Rattle.gateway_api_versions.proofs.response.reply.Tie as tie
-
-enum-known-r : tie.Need-enum-known-r
-enum-known-r c = search needs
-
-accepted-requires : tie.Need-accepted-requires
-accepted-requires c κs = search needs
-
-enum-known-r-2 : tie.Need-enum-known-r-2
-enum-known-r-2 c = search needs
-
-cast-t6 : tie.Need-cast-t6
-cast-t6 c = search needs
 
 returns : tie.Need-returns
 returns c = c .accepted .ensures ∙ ap (λ (x : ResponseReply). responseNumbers (ofResponseReply x)) (sym (c .before .before .r .given .1))
@@ -27,4 +15,5 @@ returns-2 c = ap (λ (x : ResponseReply). responseNumbers (ofResponseReply x)) (
 
 pub reply-spec : {M : Type 1} → statement M
 reply-spec =
-    tie.close (tie.spec enum-known-r accepted-requires enum-known-r-2 cast-t6 returns returns-2)
+    tie.close (tie.spec
+    (λ c. search needs) (λ c κs. search needs) (λ c. search needs) (λ c. search needs) returns returns-2)

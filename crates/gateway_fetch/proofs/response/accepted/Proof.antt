@@ -4,17 +4,9 @@ use borrow.Author.Needs.{needs}
 use Rattle.gateway_fetch.proofs.response.accepted.Statement.{statement}
 use Rattle.gateway_fetch.proofs.response.accepted.Tie as tie
 
-accepted-requires : tie.Need-accepted-requires
-accepted-requires c κs = search needs
-
-kind-requires : tie.Need-kind-requires
-kind-requires c κs = search needs
-
-given-requires : tie.Need-given-requires
-given-requires c κs = search needs
-
 returns : tie.Need-returns
 returns c = time-told _ _ (c .before .before .before .args .body .throttle) _ _ _ (c .before .before .accepted .ensures) (c .before .kind .ensures) (c .given .ensures)
 
 pub accepted-spec : {M : Type 1} → statement M
-accepted-spec = tie.close (tie.spec accepted-requires kind-requires given-requires returns)
+accepted-spec = tie.close (tie.spec
+    (λ c κs. search needs) (λ c κs. search needs) (λ c κs. search needs) returns)

@@ -4,14 +4,9 @@ use borrow.Author.Needs.{needs}
 use Rattle.gateway_metadata.proofs.hosts.befrolan_find_host.Statement.{statement}
 use Rattle.gateway_metadata.proofs.hosts.befrolan_find_host.Tie as tie
 
-host-of-requires : tie.Need-host-of-requires
-host-of-requires c κs = search needs
-
-reply-requires : tie.Need-reply-requires
-reply-requires c κs = search needs
-
 returns : tie.Need-returns
 returns c = host-told _ _ (c .before .before .before .fits .version) _ _ (c .before .host-of .ensures) _ (c .reply .ensures)
 
 pub befrolan-find-host-spec : {M : Type 1} → statement M
-befrolan-find-host-spec = tie.close (tie.spec host-of-requires reply-requires returns)
+befrolan-find-host-spec = tie.close (tie.spec
+    (λ c κs. search needs) (λ c κs. search needs) returns)

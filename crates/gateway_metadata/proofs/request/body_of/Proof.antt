@@ -8,18 +8,6 @@ use borrow.Author.Needs.{needs}
 use Rattle.gateway_metadata.proofs.request.body_of.Statement.{statement}
 use Rattle.gateway_metadata.proofs.request.body_of.Tie as tie
 
-element-copy-out-t4 : tie.Need-element-copy-out-t4
-element-copy-out-t4 c = search needs
-
-element-copy-out-creation-of : tie.Need-element-copy-out-creation-of
-element-copy-out-creation-of c = search needs
-
-element-copy-out-creation-of-2 : tie.Need-element-copy-out-creation-of-2
-element-copy-out-creation-of-2 c = search needs
-
-creation-of-requires : tie.Need-creation-of-requires
-creation-of-requires c κs = search needs
-
 returns : tie.Need-returns
 unfolding requestRow
 returns c = ap (λ (t : List ℕ). getD (c .before .before .before .before .args .row .now) 0 0 ∷ t) (c .creation-of .ensures)
@@ -28,8 +16,4 @@ pub body-of-spec : {M : Type 1} → statement M
 body-of-spec =
     tie.close
     (tie.spec
-    element-copy-out-t4
-    element-copy-out-creation-of
-    element-copy-out-creation-of-2
-    creation-of-requires
-    returns)
+    (λ c. search needs) (λ c. search needs) (λ c. search needs) (λ c κs. search needs) returns)

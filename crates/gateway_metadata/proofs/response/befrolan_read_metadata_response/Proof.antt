@@ -8,27 +8,6 @@ use Rattle.gateway_metadata.proofs.response.befrolan_read_metadata_resp
 }
 use Rattle.gateway_metadata.proofs.response.befrolan_read_metadata_response.Tie as tie
 
-read-requires : tie.Need-read-requires
-read-requires c κs = search needs
-
-reply-requires : tie.Need-reply-requires
-reply-requires c κs = search needs
-
-same-length : tie.Need-same-length
-same-length c = search needs
-
-same-length-2 : tie.Need-same-length-2
-same-length-2 c = search needs
-
-same-length-3 : tie.Need-same-length-3
-same-length-3 c = search needs
-
-same-length-4 : tie.Need-same-length-4
-same-length-4 c = search needs
-
-same-length-5 : tie.Need-same-length-5
-same-length-5 c = search needs
-
 returns : tie.Need-returns
 returns c = prefix-told metadataNumbers _ _ (c .reply .ensures) Meta.response _ (c .before .before .before .before .before .before .before .before .before .before .before .before .before .before .before .before .before .before .before .before .before .before .before .fits .version) _ _ _ (c .before .before .before .before .before .before .before .before .before .before .before .read .ensures)
 
@@ -36,11 +15,5 @@ pub befrolan-read-metadata-response-spec : {M : Type 1} → statement M
 befrolan-read-metadata-response-spec =
     tie.close
     (tie.spec
-    read-requires
-    reply-requires
-    same-length
-    same-length-2
-    same-length-3
-    same-length-4
-    same-length-5
+    (λ c κs. search needs) (λ c κs. search needs) (λ c. search needs) (λ c. search needs) (λ c. search needs) (λ c. search needs) (λ c. search needs)
     returns)

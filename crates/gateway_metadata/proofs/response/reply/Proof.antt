@@ -1,24 +1,12 @@
 -- Each case of the enum has its numbers in the definition.
 use mathlib.Core.Path.{_∙_, ap, sym}
-use Rattle.metadata.specs.Answers.{ofResponseReply}
-use Rattle.metadata.specs.declared.ResponseReply.{ResponseReply}
+use Rattle.metadata_response.specs.Answers.{ofResponseReply}
+use Rattle.metadata_response.specs.declared.ResponseReply.{ResponseReply}
 use Rattle.gateway_metadata.specs.Replies.{metadataNumbers}
 use Rattle.gateway_metadata.proofs.Rows.{none-told}
 use borrow.Author.Needs.{needs}
 use Rattle.gateway_metadata.proofs.response.reply.Statement.{statement}
 use Rattle.gateway_metadata.proofs.response.reply.Tie as tie
-
-enum-known-r : tie.Need-enum-known-r
-enum-known-r c = search needs
-
-accepted-requires : tie.Need-accepted-requires
-accepted-requires c κs = search needs
-
-enum-known-r-2 : tie.Need-enum-known-r-2
-enum-known-r-2 c = search needs
-
-refused-requires : tie.Need-refused-requires
-refused-requires c κs = search needs
 
 returns : tie.Need-returns
 returns c = c .accepted .ensures ∙ ap (λ (x : ResponseReply). metadataNumbers (ofResponseReply x)) (sym (c .before .before .r .given .1))
@@ -28,4 +16,5 @@ returns-2 c = none-told _ _ (c .refused .ensures) ∙ ap (λ (x : ResponseReply)
 
 pub reply-spec : {M : Type 1} → statement M
 reply-spec =
-    tie.close (tie.spec enum-known-r accepted-requires enum-known-r-2 refused-requires returns returns-2)
+    tie.close (tie.spec
+    (λ c. search needs) (λ c κs. search needs) (λ c. search needs) (λ c κs. search needs) returns returns-2)

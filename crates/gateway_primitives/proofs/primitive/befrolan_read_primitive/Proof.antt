@@ -5,14 +5,9 @@ use Rattle.gateway_primitives.specs.Replies.{primitiveNumbers}
 use Rattle.gateway_primitives.proofs.primitive.befrolan_read_primitive.Statement.{statement}
 use Rattle.gateway_primitives.proofs.primitive.befrolan_read_primitive.Tie as tie
 
-primitive-requires : tie.Need-primitive-requires
-primitive-requires c κs = search needs
-
-reply-requires : tie.Need-reply-requires
-reply-requires c κs = search needs
-
 returns : tie.Need-returns
 returns c = c .reply .ensures ∙ ap primitiveNumbers (c .before .primitive .ensures)
 
 pub befrolan-read-primitive-spec : {M : Type 1} → statement M
-befrolan-read-primitive-spec = tie.close (tie.spec primitive-requires reply-requires returns)
+befrolan-read-primitive-spec = tie.close (tie.spec
+    (λ c κs. search needs) (λ c κs. search needs) returns)

@@ -1,20 +1,11 @@
 -- Each case of the enum has its numbers in the definition.
 use mathlib.Core.Path.{ap, sym}
 use borrow.Author.Needs.{needs}
-use Rattle.kinds.specs.Kinds.{ofReply}
-use Rattle.kinds.specs.declared.Reply.{Reply}
+use Rattle.gateway_primitives.specs.Kinds.{ofReply}
+use Rattle.gateway_primitives.specs.declared.kinds.Reply.{Reply}
 use Rattle.gateway_primitives.specs.Replies.{primitiveNumbers}
 use Rattle.gateway_primitives.proofs.primitive.reply.Statement.{statement}
 use Rattle.gateway_primitives.proofs.primitive.reply.Tie as tie
-
-enum-known-r : tie.Need-enum-known-r
-enum-known-r c = search needs
-
-enum-known-r-2 : tie.Need-enum-known-r-2
-enum-known-r-2 c = search needs
-
-cast-t9 : tie.Need-cast-t9
-cast-t9 c = search needs
 
 returns : tie.Need-returns
 returns c = ap (λ (x : Reply). primitiveNumbers (ofReply x)) (sym (c .before .r .given .1))
@@ -23,4 +14,5 @@ returns-2 : tie.Need-returns-2
 returns-2 c = ap (λ (x : Reply). primitiveNumbers (ofReply x)) (sym (c .before .before .r2 .given .1))
 
 pub reply-spec : {M : Type 1} → statement M
-reply-spec = tie.close (tie.spec enum-known-r enum-known-r-2 cast-t9 returns returns-2)
+reply-spec = tie.close (tie.spec
+    (λ c. search needs) (λ c. search needs) (λ c. search needs) returns returns-2)

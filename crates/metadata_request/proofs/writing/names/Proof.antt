@@ -2,8 +2,8 @@
 use borrow.Author.Needs.{needs}
 use Prim.Native.Nat.{_-_}
 use Rattle.metadata_request.specs.Shapes.{nameShape}
-use Rattle.rows.specs.Writes.{rowBytes, rowsBytes}
-use Rattle.rows.proofs.Turns.{Walked, walked-end, walked-more, walked-start}
+use Rattle.body_writing.specs.Writes.{rowBytes, rowsBytes}
+use Rattle.body_writing.proofs.Turns.{Walked, walked-end, walked-more, walked-start}
 use Rattle.metadata_request.proofs.writing.names.Statement.{statement}
 use Rattle.metadata_request.proofs.writing.names.Tie as tie
 

@@ -11,27 +11,6 @@ use borrow.Author.Needs.{needs}
 use Rattle.primitives.proofs.numbers.eight.Statement.{statement}
 use Rattle.primitives.proofs.numbers.eight.Tie as tie
 
-four-requires : tie.Need-four-requires
-four-requires c κs = search needs
-
-mul-result : tie.Need-mul-result
-mul-result c = search needs
-
-sub-four : tie.Need-sub-four
-sub-four c = search needs
-
-part-four-start : tie.Need-part-four-start
-part-four-start c = search needs
-
-part-four-end : tie.Need-part-four-end
-part-four-end c = search needs
-
-four-requires-2 : tie.Need-four-requires-2
-four-requires-2 c κs = search needs
-
-add-result : tie.Need-add-result
-add-result c = search needs
-
 returns : tie.Need-returns
 returns c =
     let t = c .before .before .before .before .args .s .now in
@@ -46,11 +25,5 @@ pub eight-spec : {M : Type 1} → statement M
 eight-spec =
     tie.close
     (tie.spec
-    four-requires
-    mul-result
-    sub-four
-    part-four-start
-    part-four-end
-    four-requires-2
-    add-result
+    (λ c κs. search needs) (λ c. search needs) (λ c. search needs) (λ c. search needs) (λ c. search needs) (λ c κs. search needs) (λ c. search needs)
     returns)

@@ -5,9 +5,6 @@ use borrow.Author.Needs.{needs}
 use Rattle.primitives.proofs.numbers.filled.Statement.{statement}
 use Rattle.primitives.proofs.numbers.filled.Tie as tie
 
-div-result : tie.Need-div-result
-div-result c = search needs
-
 mul-result : tie.Need-mul-result
 mul-result c = record { fits = filled-fits _ _ _ (c .pre .0) (c .pre .1) .0 }
 
@@ -18,4 +15,5 @@ returns : tie.Need-returns
 returns c = filled-is _ _ _ (c .pre .0)
 
 pub filled-spec : {M : Type 1} → statement M
-filled-spec = tie.close (tie.spec div-result mul-result add-result returns)
+filled-spec = tie.close (tie.spec
+    (λ c. search needs) mul-result add-result returns)

@@ -5,17 +5,12 @@ use borrow.Author.Needs.{needs}
 use Rattle.primitives.proofs.numbers.int64.Statement.{statement}
 use Rattle.primitives.proofs.numbers.int64.Tie as tie
 
-at-requires : tie.Need-at-requires
-at-requires c κs = search needs
-
 returns : tie.Need-returns
 returns c = cell-short w64 _ _ (c .at .ensures) (search needs)
-
-eight-requires : tie.Need-eight-requires
-eight-requires c κs = search needs
 
 returns-2 : tie.Need-returns-2
 returns-2 c = cell-whole _ _ (search needs) (c .eight .ensures) (search needs)
 
 pub int64-spec : {M : Type 1} → statement M
-int64-spec = tie.close (tie.spec at-requires returns eight-requires returns-2)
+int64-spec = tie.close (tie.spec
+    (λ c κs. search needs) returns (λ c κs. search needs) returns-2)

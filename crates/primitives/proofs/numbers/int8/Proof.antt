@@ -6,9 +6,6 @@ use borrow.Author.Needs.{needs}
 use Rattle.primitives.proofs.numbers.int8.Statement.{statement}
 use Rattle.primitives.proofs.numbers.int8.Tie as tie
 
-uint8-requires : tie.Need-uint8-requires
-uint8-requires c κs = search needs
-
 extended-requires : tie.Need-extended-requires
 extended-requires c κs = (int-below w8 _ (c .before .shared-slice-known .given) (c .uint8 .result) (c .uint8 .ensures) _ (omega arith), omega arith)
 
@@ -16,4 +13,5 @@ returns : tie.Need-returns
 returns c = cell-extended w8 _ (c .before .before .shared-slice-known .given) (c .before .uint8 .result) (c .before .uint8 .ensures) _ (c .extended .ensures)
 
 pub int8-spec : {M : Type 1} → statement M
-int8-spec = tie.close (tie.spec uint8-requires extended-requires returns)
+int8-spec = tie.close (tie.spec
+    (λ c κs. search needs) extended-requires returns)

@@ -4,20 +4,12 @@ use borrow.Author.Needs.{needs}
 use Rattle.primitives.proofs.numbers.tenth.Statement.{statement}
 use Rattle.primitives.proofs.numbers.tenth.Tie as tie
 
-mul-t5 : tie.Need-mul-t5
-mul-t5 c = search needs
-
-add-t6 : tie.Need-add-t6
-add-t6 c = search needs
-
 returns : tie.Need-returns
 returns c = tenth-low _ _ (c .if1 .taken)
-
-at-requires : tie.Need-at-requires
-at-requires c κs = search needs
 
 returns-2 : tie.Need-returns-2
 returns-2 c = tenth-high _ _ (c .before .if1 .left) _ (c .at .ensures)
 
 pub tenth-spec : {M : Type 1} → statement M
-tenth-spec = tie.close (tie.spec mul-t5 add-t6 returns at-requires returns-2)
+tenth-spec = tie.close (tie.spec
+    (λ c. search needs) (λ c. search needs) returns (λ c κs. search needs) returns-2)

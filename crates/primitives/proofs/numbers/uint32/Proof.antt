@@ -4,17 +4,12 @@ use borrow.Author.Needs.{needs}
 use Rattle.primitives.proofs.numbers.uint32.Statement.{statement}
 use Rattle.primitives.proofs.numbers.uint32.Tie as tie
 
-at-requires : tie.Need-at-requires
-at-requires c κs = search needs
-
 returns : tie.Need-returns
 returns c = int-short 4 _ _ (c .at .ensures) (search needs)
-
-four-requires : tie.Need-four-requires
-four-requires c κs = search needs
 
 returns-2 : tie.Need-returns-2
 returns-2 c = int-is 4 _ _ (search needs) (c .four .ensures .0)
 
 pub uint32-spec : {M : Type 1} → statement M
-uint32-spec = tie.close (tie.spec at-requires returns four-requires returns-2)
+uint32-spec = tie.close (tie.spec
+    (λ c κs. search needs) returns (λ c κs. search needs) returns-2)

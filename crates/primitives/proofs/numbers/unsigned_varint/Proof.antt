@@ -16,26 +16,14 @@ abbrev μ-loop : tie.MeasureT-loop
 loop-holds : tie.Need-loop-holds Inv-loop μ-loop
 loop-holds c = (search needs, start _)
 
-bytes-end-requires : tie.Need-bytes-end-requires Inv-loop μ-loop
-bytes-end-requires c κs = search needs
-
 returns : tie.Need-returns Inv-loop μ-loop
 returns c = short _ _ _ _ _ _ (c .bytes-end .ensures) (c .before .before .before .loop .inv .1) (c .before .if1 .taken)
-
-shared-slice-read-wide : tie.Need-shared-slice-read-wide Inv-loop μ-loop
-shared-slice-read-wide c = search needs
-
-wide-requires : tie.Need-wide-requires Inv-loop μ-loop
-wide-requires c κs = search needs
 
 mul-t10 : tie.Need-mul-t10 Inv-loop μ-loop
 mul-t10 c = record { fits = room _ _ _ _ _ (omega arith) (c .before .before .before .before .before .loop .inv .1) _ (c .if2 .taken) .0 }
 
 add-t11 : tie.Need-add-t11 Inv-loop μ-loop
 add-t11 c = record { fits = room _ _ _ _ _ (omega arith) (c .before .before .before .before .before .loop .inv .1) _ (c .if2 .taken) .1 }
-
-add-t12 : tie.Need-add-t12 Inv-loop μ-loop
-add-t12 c = search needs
 
 returns-2 : tie.Need-returns-2 Inv-loop μ-loop
 returns-2 c = ended _ _ _ _ _ (c .before .wide .ensures .0) (c .before .before .before .if1 .left) _ (omega arith) (c .before .before .before .before .before .loop .inv .1) (c .if2 .taken)
@@ -49,26 +37,11 @@ add-value c = record { fits = room _ _ _ _ _ (omega arith) (c .before .before .b
 mul-weight : tie.Need-mul-weight Inv-loop μ-loop
 mul-weight c = let h = narrow _ _ _ _ _ (omega arith) (c .before .before .before .before .before .loop .inv .1) in omega arith
 
-add-p : tie.Need-add-p Inv-loop μ-loop
-add-p c = search needs
-
-loop-less : tie.Need-loop-less Inv-loop μ-loop
-loop-less c = search needs
-
 loop-again : tie.Need-loop-again Inv-loop μ-loop
 loop-again c = (omega arith, again _ _ _ _ _ (c .before .wide .ensures .0) (c .before .before .before .if1 .left) _ (omega arith) (c .before .before .before .before .before .loop .inv .1) (c .if2 .left) _ (omega arith))
 
-bytes-end-requires-2 : tie.Need-bytes-end-requires-2 Inv-loop μ-loop
-bytes-end-requires-2 c κs = search needs
-
 returns-3 : tie.Need-returns-3 Inv-loop μ-loop
 returns-3 c = short _ _ _ _ _ _ (c .bytes-end2 .ensures) (c .before .before .before .loop .inv .1) (c .before .if3 .taken)
-
-shared-slice-read-wide-2 : tie.Need-shared-slice-read-wide-2 Inv-loop μ-loop
-shared-slice-read-wide-2 c = search needs
-
-wide-requires-2 : tie.Need-wide-requires-2 Inv-loop μ-loop
-wide-requires-2 c κs = search needs
 
 tenth-requires : tie.Need-tenth-requires Inv-loop μ-loop
 tenth-requires c κs = below-10 _ _ _ _ _ (omega arith) (c .before .before .before .before .loop .inv .1)
@@ -80,26 +53,6 @@ pub unsigned-varint-spec : {M : Type 1} → statement M
 unsigned-varint-spec =
     tie.close
     (tie.spec
-    Inv-loop
-    μ-loop
-    loop-holds
-    bytes-end-requires
-    returns
-    shared-slice-read-wide
-    wide-requires
-    mul-t10
-    add-t11
-    add-t12
-    returns-2
-    mul-value
-    add-value
-    mul-weight
-    add-p
-    loop-less
-    loop-again
-    bytes-end-requires-2
-    returns-3
-    shared-slice-read-wide-2
-    wide-requires-2
-    tenth-requires
-    returns-4)
+    Inv-loop μ-loop loop-holds (λ c κs. search needs) returns (λ c. search needs) (λ c κs. search needs) mul-t10 add-t11 (λ c. search needs) returns-2
+    mul-value add-value mul-weight (λ c. search needs) (λ c. search needs) loop-again (λ c κs. search needs) returns-3 (λ c. search needs)
+    (λ c κs. search needs) tenth-requires returns-4)

@@ -1,4 +1,0 @@
--- an item into the tables
-pub mod ItemRows
--- an item without tags
-pub mod BareRows

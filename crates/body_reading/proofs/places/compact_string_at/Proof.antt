@@ -1,0 +1,16 @@
+-- The step on the rest is a read at the place where the rest starts.
+use Rattle.body_reading.proofs.PartAt.{part-at, part-fits, shows-compact}
+use borrow.Author.Needs.{needs}
+use Rattle.body_reading.proofs.places.compact_string_at.Statement.{statement}
+use Rattle.body_reading.proofs.places.compact_string_at.Tie as tie
+
+part-moved-requires : tie.Need-part-moved-requires
+part-moved-requires c κs = part-fits _ shows-compact _ _ _ (c .before .rest .ensures) _ (c .compact-string .ensures) (search needs) (search needs)
+
+returns : tie.Need-returns
+returns c = part-at _ shows-compact _ _ _ (c .before .before .rest .ensures) _ (c .before .compact-string .ensures) _ (c .part-moved .ensures)
+
+pub compact-string-at-spec : {M : Type 1} → statement M
+compact-string-at-spec =
+    tie.close (tie.spec
+    (λ c κs. search needs) (λ c κs. search needs) part-moved-requires returns)

@@ -1,2 +1,0 @@
--- a broker, read and stored
-pub mod Rows

@@ -1,8 +1,0 @@
--- the walk over a body
-pub mod Whole
--- the whole reply of a read
-pub mod Replies
--- the promises determine the replies
-pub mod Unique
--- what stands behind the used bytes, and versions of one layout
-pub mod Local

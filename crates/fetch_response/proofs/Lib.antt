@@ -1,0 +1,16 @@
+-- aborted transactions, and arrays of them
+pub mod AbortedRows
+pub mod AbortedCounts
+-- partitions
+pub mod PartitionCells
+pub mod PartitionRows
+-- topics
+pub mod TopicRows
+-- the walk over a body
+pub mod Whole
+-- the whole reply of a read
+pub mod Replies
+-- the promises determine the replies
+pub mod Unique
+-- what stands behind the used bytes, and versions of one layout
+pub mod Local

@@ -1,0 +1,36 @@
+-- What is left to read from here is what was asked at the start. Every turn takes one from `left`, so the loop ends, if not by a refusal.
+use mathlib.Core.Bool.{false, true}
+use mathlib.Core.Path.{_≡_, refl}
+use lib.ListN.{length}
+use borrow.Author.Needs.{needs}
+use Rattle.body_reading.specs.Walk.{inPlace, walk}
+use Rattle.body_reading.proofs.Loops.{Going, going-done, going-start, turn-next, turn-no}
+use Rattle.fetch_response.specs.TopicShapes.{abortedShape}
+use Rattle.body_reading.specs.Walked.{filledIs}
+use Rattle.fetch_response.proofs.aborted.pairs_in.Statement.{statement}
+use Rattle.fetch_response.proofs.aborted.pairs_in.Tie as tie
+
+abbrev Inv-loop : tie.InvT-loop
+Inv-loop s p count table₀ mark next₀ mark₀ left₀ table next mark' left = Going (λ e. walk false (abortedShape true) (e .o)) s count p (inPlace table₀ mark) left next (inPlace table mark') × (length table ≡ length table₀)
+
+abbrev μ-loop : tie.MeasureT-loop
+μ-loop s p count table₀ mark next₀ mark₀ left₀ table next mark' left = left
+
+loop-holds : tie.Need-loop-holds Inv-loop μ-loop
+loop-holds c = (going-start _ _ _ _ _, refl)
+
+loop-again : tie.Need-loop-again Inv-loop μ-loop
+loop-again c = (turn-next _ _ _ _ _ _ _ _ (c .before .before .before .before .before .before .before .before .loop .inv .0) (c .before .before .before .before .before .before .before .loop-test .taken) (filledIs _) _ _ (c .before .before .before .before .before .pair-at .ensures) (c .before .q .given .1) _ (λ e. refl), search needs)
+
+returns : tie.Need-returns Inv-loop μ-loop
+returns c = turn-no _ _ _ _ _ _ _ _ (c .before .before .before .before .before .before .before .before .loop .inv .0) (c .before .before .before .before .before .before .before .loop-test .taken) (filledIs _) _ _ (c .before .before .before .before .before .pair-at .ensures) (c .before .e .given .1) (λ e. refl)
+
+returns-2 : tie.Need-returns-2 Inv-loop μ-loop
+returns-2 c = going-done _ _ _ _ _ _ _ _ (c .before .loop .inv .0) (c .loop-test .left)
+
+pub pairs-in-spec : {M : Type 1} → statement M
+pairs-in-spec =
+    tie.close
+    (tie.spec
+    Inv-loop μ-loop loop-holds (λ c. search needs) (λ c κs. tt) (λ c. search needs) (λ c. search needs) loop-again (λ c. search needs)
+    (λ c. search needs) returns (λ c. search needs) returns-2)

@@ -1,2 +1,0 @@
--- the numbers of the agreement, row behind row
-pub mod Numbers

@@ -1,2 +1,0 @@
--- the kinds of primitives, read and written
-pub mod Kinds

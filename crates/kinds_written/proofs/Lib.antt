@@ -1,2 +1,0 @@
--- from what the writer of a kind promises to the answer by kind
-pub mod ByKind

@@ -1,8 +1,0 @@
--- what stands around brokers and topics
-pub mod Around
--- the whole reply of a read
-pub mod Replies
--- the promises determine the replies
-pub mod Unique
--- what stands behind the used bytes, and versions of one layout
-pub mod Local

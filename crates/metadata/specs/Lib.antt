@@ -1,6 +1,0 @@
--- what the answers of the call say in the definition's words
-pub mod Answers
--- the layout of a version
-pub mod Shapes
--- what the walks over a body say
-pub mod Walks

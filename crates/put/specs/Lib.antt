@@ -1,2 +1,0 @@
--- what a writer leaves
-pub mod Put

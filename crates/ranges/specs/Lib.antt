@@ -1,2 +1,0 @@
--- what is asked of lent rows and bytes
-pub mod Asked

@@ -1,2 +1,0 @@
--- a number that came through its 64 bits
-pub mod Passed
