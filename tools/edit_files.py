@@ -13,6 +13,10 @@ def all_of(crate):
     return sorted(glob.glob(folder + "/*.edit")) + sorted(glob.glob(folder + "/further/*.edit"))
 
 
+def is_tried_by_rt(edit):
+    return os.path.basename(os.path.dirname(edit)) == "must-fail"
+
+
 def label(edit):
     """CRATE/NAME, as tests/faults.txt and the documents name an edit."""
     return "%s/%s" % (edit.split("/")[1], os.path.basename(edit)[: -len(".edit")])

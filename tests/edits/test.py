@@ -8,16 +8,16 @@ import tempfile
 
 HERE = os.path.dirname(os.path.abspath(__file__))
 ROOT = os.path.dirname(os.path.dirname(HERE))
-CRATE, BELOW = "body_reading", ["layout", "utf8", "primitives"]
+CRATE, BELOW = "api_versions_agreement", ["layout", "utf8", "primitives"]
 EXPECTED = {
     "wrong": "refused",
     "comment": "NOT REFUSED",
     "name_gone": "UNFIT",
     "shape_gone": "UNFIT",
     "no_code": "BAD EDIT: it did not reach the prover",
-    "text_twice": "BAD EDIT: a text that it replaces stands in src/walks.rt more than once",
-    "text_nowhere": "BAD EDIT: a text that it replaces stands in src/walks.rt nowhere",
-    "no_file": "BAD EDIT: there is no src/walk.rt",
+    "text_twice": "BAD EDIT: a text that it replaces stands in src/lib.rt more than once",
+    "text_nowhere": "BAD EDIT: a text that it replaces stands in src/lib.rt nowhere",
+    "no_file": "BAD EDIT: there is no src/agreement.rt",
     "no_file_named": "BAD EDIT: it names no file",
     "file_of_another_crate": "BAD EDIT: it names no file",
     "nothing": "BAD EDIT: it replaces nothing",
@@ -61,7 +61,7 @@ def wrong(room):
     if status != 1 or not any("%s/text_twice: BAD EDIT" % CRATE in l for l in said):
         yield "`still` passes over an edit whose text stands twice"
     # A module that was not checked before is checked now, so a refusal could be its own and not the edit's.
-    os.remove("%s/target/rlib/%s.rlib/toolchain/checked/Rattle.%s.proofs.Admission.oantt" % (room, CRATE, CRATE))
+    os.remove("%s/target/rlib/%s.rlib/toolchain/checked/Rattle.%s.proofs.Highest.oantt" % (room, CRATE, CRATE))
     status, said = reported(room, CRATE)
     if status != 1 or not any(l.startswith("edits: %s: NOT PROVED as it stands" % CRATE) for l in said):
         yield "a crate that is not as it was checked is passed over"
