@@ -14,6 +14,7 @@ EXPECTED = {
     "comment": "NOT REFUSED",
     "name_gone": "UNFIT",
     "shape_gone": "UNFIT",
+    "unaltered": "NOT REFUSED",
     "no_code": "BAD EDIT: it did not reach the prover",
     "text_twice": "BAD EDIT: a text that it replaces stands in src/lib.rt more than once",
     "text_nowhere": "BAD EDIT: a text that it replaces stands in src/lib.rt nowhere",
@@ -57,6 +58,9 @@ def wrong(room):
             yield "there is no line '%s'" % starts
     if status != 1 or said[-1] != "edits: %d tried, %d bad" % (len(EXPECTED), len(EXPECTED) - 1):
         yield "it ends with status %d and '%s'" % (status, said[-1])
+    # `wrong` and `unaltered` change two functions that do not call each other.
+    if not any(l.startswith("edits: %s/wrong refused" % CRATE) and "(2 at once, " in l for l in said):
+        yield "`wrong` is not tried with `unaltered` in one copy"
     status, said = reported(room, "still")
     if status != 1 or not any("%s/text_twice: BAD EDIT" % CRATE in l for l in said):
         yield "`still` passes over an edit whose text stands twice"
