@@ -6,9 +6,10 @@ use mathlib.Core.Path.{_∙_, _≡_, ap, refl, subst, sym}
 use Prim.Native.Nat.{_%_, _*_, _+_, _-_, _/_, _<_, _^_, _≤_, suc, zero, ℕ}
 use native.Mathlib.Nat.{add-mul, div-add-mod', mul-assoc, mul-comm, pow-suc, suc-ne-zero}
 use native.Mathlib.Omega.{arith}
-use lib.Dec.{T, eqb-refl, lit<, ltb, ltb→lt}
+use lib.Dec.{lit<, ltb}
 use lib.ListN.{length, length-append}
 use lib.Seq.{drop-append-seam, take-append-seam}
+use borrow.Author.Tests.{eq-eqb}
 use Rattle.layout.specs.Reading.{Reader, give, here, many, ok, pair, pick, placed, primitive, raw, then}
 use Rattle.layout.specs.Utf8.{utf8}
 use Rattle.layout.specs.Primitives.{Maybe, Null, Size, Width, be, bits, bytes, cell, checked, compact, fixed, flag, flagBytes, groups, holds, int, integer, integerBytes, keeps, lengthBytes, lengthOf, limit, nullBytes, plain, shortest, signed, size, sized, sizedBytes, unsigned, unsignedBytes, w16, w32, w64, w8}
@@ -16,7 +17,7 @@ use Rattle.layout.specs.Rows.{Basic, BasicValue, Shape, Value, absent, a
 use Rattle.layout.specs.Read.{byBytes, read, readBasic, readBlob, readText}
 use Rattle.layout.specs.Answers.{most}
 use Rattle.layout.specs.Write.{basicFault, each, fault, firstOf, or, sizedFault, tooLong, unless, write, writeBasic}
-use Rattle.layout.proofs.Tests.{is-true, lt-false, lt-true, of-le, of-lt, one-more}
+use Rattle.layout.proofs.Tests.{lt-false, lt-true, of-le, of-lt, one-more}
 use Rattle.layout.proofs.Cells.{extend, extend-bytes, pattern, powers}
 use Rattle.layout.proofs.Local.{raw-ok}
 use Rattle.layout.proofs.Parts.{Eating, Eats}
@@ -116,7 +117,7 @@ back-shortest (suc k) m a n h = go (λ i. back-shortest k (m * 128) _ (n / 128) 
     go : (n / 128 < 2 * 128 ^ k → Back (groups k (m * 128) (a + (128 + n % 128) % 128 * m)) (shortest k (n / 128)) ((a + (128 + n % 128) % 128 * m) + n / 128 * (m * 128))) →
         (b : Bool) → ltb n 128 ≡ b → Back (groups (suc k) m a) (cond b (bytes 1 n) (bytes 1 (128 + n % 128) ++ shortest k (n / 128))) (a + n * m)
     go rec true e =
-        let i : n < 128 = ltb→lt n 128 (subst T (sym e) tt) in
+        let i = of-lt n 128 e in
         back-last (int 1) _ (bytes 1 n) n (a + n * m) (back-int 1 n (omega arith))
         (back-true _ _ _ _ _ e (back-give (a + n * m)))
     go rec false e =
@@ -155,7 +156,7 @@ unfolding lengthOf nullBytes
 back-null (fixed w m) k =
     let p = powers w in
     back-last _ _ _ (2 ^ bits w - 1) _ (back-int (size w) _ (omega (arith, p .least, p .half, p .power)))
-    (back-false _ _ _ _ _ (lt-false (2 ^ bits w - 1) (2 ^ (bits w - 1)) (omega (arith, p .least, p .half))) (back-true _ _ _ _ _ (is-true _ (eqb-refl (2 ^ bits w - 1))) (back-give 0)))
+    (back-false _ _ _ _ _ (lt-false (2 ^ bits w - 1) (2 ^ (bits w - 1)) (omega (arith, p .least, p .half))) (back-true _ _ _ _ _ (eq-eqb (2 ^ bits w - 1) _ refl) (back-give 0)))
 back-null (compact m) k = back-unsigned 0 (lit< tt)
 back-null plain k = let z : _≡_ {A = ℕ} 0 1 = cc in absurd (omega arith)
 

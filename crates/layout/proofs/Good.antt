@@ -6,10 +6,10 @@ use mathlib.Core.Path.{_∙_, _≡_, ap, refl, subst, sym}
 use Prim.Native.Nat.{_+_, _<_, _^_, _≤_, suc, ℕ}
 use native.Mathlib.Nat.{add-zero, zero-add}
 use native.Mathlib.Omega.{arith}
-use lib.Dec.{eqb, eqb-refl, leb·zero, lit<}
+use lib.Dec.{eqb, leb·zero, lit<}
 use lib.ListN.{getD, length, length-append, replicate}
 use lib.Seq.{drop-at}
-use borrow.Author.Tests.{ne-eqb}
+use borrow.Author.Tests.{eq-eqb, ne-eqb}
 use Rattle.layout.specs.Primitives.{Maybe, Size, compact, empty, fixed, keeps, kept, minus, never, plain}
 use Rattle.layout.specs.Rows.{Basic, BasicValue, Shape, Value, absent, array, blob, boolean, end, field, lacking, level, natural, number, optional, text}
 use Rattle.layout.specs.Tables.{Span, Tables, absentCells, absentCount, addsUp, all, asked, cells, count, from, good, goodCells, goodCount, goodRow, goodSpan, inside, kindOf, lacks, rowWidth, rowsAt, rowsOf, span, sum, width}
@@ -19,7 +19,7 @@ use Rattle.layout.proofs.Every.{All, Every, EveryBasic, EveryMaybe, Few
 use Rattle.layout.proofs.Link.{itemsCell}
 use Rattle.layout.proofs.Parts.{Eating, shown}
 use Rattle.layout.proofs.Sums.{length-flatten, one-of, sum-add, sum-append, sum-eq, sum-flatten, sum-ones, sum-same, sum-swap, sum-zero}
-use Rattle.layout.proofs.Tests.{is-true, le-true, lt-true, nonzero, not-minus, of-eq, of-ne}
+use Rattle.layout.proofs.Tests.{le-true, lt-true, nonzero, not-minus, of-eq, of-ne}
 
 both-true : (a b : Bool) → a ≡ true → b ≡ true → (a && b) ≡ true
 both-true a b h g = rw (h, g)
@@ -299,7 +299,7 @@ module _ (q : Bool) (n : ℕ) (l : Shape) (msg : List ℕ) (k : ℕ) (st : Table
       let b : sum (λ u. sum (asked t (kindOf u l)) (rowsAt l st u)) (from 1 n) ≡ sum (λ u. sum (asked t (kindOf u l)) (rowsIn u l (H .x))) (from 1 n) =
       sum-same Named _ _ (λ u g. ap (sum (asked t (kindOf u l))) (back u g)) (from 1 n) (W .named) in
       let c = adds (λ t. t .0 + t .1 ≤ length msg) l n t l (H .x) (W .within-it) (W .free) (W .tree) (W .kinds) (W .no-null) every in
-      ap (λ (m : ℕ). eqb m (length (rowsAt l st t))) ((λ i. a i + b i) ∙ c ∙ sym (ap length (back t h))) ∙ is-true _ (eqb-refl (length (rowsAt l st t)))
+      ap (λ (m : ℕ). eqb m (length (rowsAt l st t))) ((λ i. a i + b i) ∙ c ∙ sym (ap length (back t h))) ∙ eq-eqb (length (rowsAt l st t)) _ refl
 
   -- 13 is not given
   pub read-good : good (length msg) n l st ≡ true

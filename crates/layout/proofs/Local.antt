@@ -4,14 +4,14 @@ use mathlib.Core.List.{List, _++_, append-assoc}
 use mathlib.Core.Path.{_∙_, _≡_, ap, refl, subst, sym}
 use Prim.Native.Nat.{_+_, _≤_, suc, zero, ℕ}
 use native.Mathlib.Omega.{arith}
-use lib.Dec.{T, leb, leb→le, le→leb}
+use lib.Dec.{leb}
 use lib.ListN.{drop, length, length-append, length-drop, take}
 use lib.Seq.{drop-at, length-take-le, take-add, take-at}
 use Rattle.layout.specs.Reading.{Reader, Refusal, Res, bad, fail, give, here, many, more, next, ok, pair, pick, placed, primitive, raw, then}
 use Rattle.layout.specs.Primitives.{Size, Width, cell, checked, compact, fixed, flag, groups, int, keeps, lengthOf, plain, sized, unsigned, w8}
 use Rattle.layout.specs.Rows.{Basic, Shape, absent, array, blob, boolean, end, field, lacking, level, natural, number, optional, text}
 use Rattle.layout.specs.Read.{Codec, read, readBasic, readBlob, readText}
-use Rattle.layout.proofs.Tests.{is-true}
+use Rattle.layout.proofs.Tests.{le-true, of-le}
 
 -- a refusal is no answer
 pub not-ok : {A X : Type 0} {e : Refusal} {x : A} {n : ℕ} → bad e ≡ ok x n → X
@@ -53,7 +53,7 @@ local-primitive {A} r h = record { law = λ p s x n e. go p s x n (r p s) refl e
 
 pub raw-ok : (n p : ℕ) (s : List ℕ) → n ≤ length s → raw n p s ≡ ok (take n s) n
 unfolding raw
-raw-ok n p s h = rw (is-true (leb n (length s)) (le→leb n (length s) h))
+raw-ok n p s h = rw (le-true n (length s) h)
 
 pub local-raw : (n : ℕ) → Local (raw n)
 unfolding raw
@@ -61,7 +61,7 @@ local-raw n = record { law = λ p s x m e. go p s x m _ (leb n (length s)) refl 
   where
     go : (p : ℕ) (s : List ℕ) (x : List ℕ) (m : ℕ) (c : Refusal) (b : Bool) → leb n (length s) ≡ b → cond b (ok (take n s) n) (bad c) ≡ ok x m → Same (raw n) p s x m
     go p s x m c true d e =
-        let h : n ≤ length s = leb→le n (length s) (subst T (sym d) tt) in
+        let h : n ≤ length s = of-le n (length s) d in
         let i : n ≡ m = cc in
         let j : take n s ≡ x = cc in
         let l : length (take n s) ≡ n = length-take-le n s h in

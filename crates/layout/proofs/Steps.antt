@@ -1,16 +1,16 @@
 -- One step of a reader: what follows from its parts, and what an accepted read says of them.
-use mathlib.Core.Bool.{Bool, false, not, true}
+use mathlib.Core.Bool.{Bool, false, true}
 use mathlib.Core.List.{List, [], _∷_}
-use mathlib.Core.Path.{_∙_, _≡_, ap, refl, subst, sym}
+use mathlib.Core.Path.{_∙_, _≡_, ap, refl, sym}
 use Prim.Native.Nat.{_+_, _<_, _≤_, suc, zero, ℕ}
 use native.Mathlib.Nat.{add-zero}
 use native.Mathlib.Omega.{arith}
-use lib.Arith.{lt→nleb}
-use lib.Dec.{T, eqb, eqb→eq, leb, leb→le, nleb→lt}
+use lib.Dec.{eqb, leb}
 use lib.ListN.{drop, length, take}
+use borrow.Author.Tests.{leb-false}
 use Rattle.layout.specs.Reading.{Reader, Refusal, Res, bad, because, fail, give, many, more, next, ok, pair, pick, placed, primitive, raw, then}
 use Rattle.layout.specs.Primitives.{be, checked, int}
-use Rattle.layout.proofs.Tests.{is-false, of-le}
+use Rattle.layout.proofs.Tests.{le-false, of-eq, of-le}
 use Rattle.layout.proofs.Local.{not-ok, raw-ok}
 
 pub then-ok : {A B : Type 0} (r : Reader A) (f : A → Reader B) (p : ℕ) (s : List ℕ) (x : A) (n : ℕ) → r p s ≡ ok x n → then r f p s ≡ more n (f x (p + n) (drop n s))
@@ -23,7 +23,7 @@ then-bad r f p s e h = rw h
 
 pub raw-bad : (n p : ℕ) (s : List ℕ) → length s < n → raw n p s ≡ bad (because 3 p)
 unfolding raw
-raw-bad n p s h = rw (is-false (leb n (length s)) (lt→nleb n (length s) h))
+raw-bad n p s h = rw (le-false n (length s) h)
 
 pub int-ok : (k p : ℕ) (s : List ℕ) → k ≤ length s → int k p s ≡ ok (be 0 (take k s)) k
 unfolding int give
@@ -65,9 +65,7 @@ raw-inv n p s x m h = go (leb n (length s)) refl
   where
     go : (t : Bool) → leb n (length s) ≡ t → Raw n s x m
     go true d = let i = of-le n (length s) d in let g = raw-ok n p s i in record { fits = i; is = cc; used = cc }
-    go false d =
-        let g = raw-bad n p s (nleb→lt n (length s) (subst (λ (b : Bool). T (not b)) (sym d) tt)) in
-        let z : _≡_ {A = ℕ} 0 1 = cc in absurd (omega arith)
+    go false d = not-ok (sym (raw-bad n p s (leb-false n (length s) d)) ∙ h)
 
 pub record Number (k : ℕ) (s : List ℕ) (x n : ℕ) : Type 0 where
   pub fits : k ≤ length s
@@ -78,11 +76,8 @@ pub int-inv : (k p : ℕ) (s : List ℕ) (x n : ℕ) → int k p s ≡ ok x n �
 int-inv k p s x n e = go (leb k (length s)) refl
   where
     go : (b : Bool) → leb k (length s) ≡ b → Number k s x n
-    go true d = let h = leb→le k (length s) (subst T (sym d) tt) in let g = int-ok k p s h in record { fits = h; is = cc; used = cc }
-    go false d =
-        let h : length s < k = nleb→lt k (length s) (subst (λ (b : Bool). T (not b)) (sym d) tt) in
-        let g = int-bad k p s h in
-        let z : _≡_ {A = ℕ} 0 1 = cc in absurd (omega arith)
+    go true d = let h = of-le k (length s) d in let g = int-ok k p s h in record { fits = h; is = cc; used = cc }
+    go false d = not-ok (sym (int-bad k p s (leb-false k (length s) d)) ∙ e)
 
 -- ---- a loop that reads items: what is read so far, one more, and a refusal
 
@@ -172,7 +167,7 @@ checked-inv b e len p s x n h =
     a .first ∙ go b (a .x) (a .k) (p + a .n) (drop (a .n) s) (a .n) (a .sum) (eqb (a .x) 0) refl (a .second)
   where
     go : (b : Bool) (y k q : ℕ) (u : List ℕ) (j : ℕ) → n ≡ j + k → (t : Bool) → eqb y 0 ≡ t → pick t (pick b (give 0) (fail e)) (give y) q u ≡ ok x k → ok y j ≡ ok x n
-    go true y k q u j i true d g = let w : 0 ≡ x = cc in let v : 0 ≡ k = cc in let z : y ≡ 0 = eqb→eq y 0 (subst T (sym d) tt) in let o : j ≡ n = omega arith in cc
+    go true y k q u j i true d g = let w : 0 ≡ x = cc in let v : 0 ≡ k = cc in let z : y ≡ 0 = of-eq y 0 d in let o : j ≡ n = omega arith in cc
     go false y k q u j i true d g = let z : _≡_ {A = ℕ} 0 1 = cc in absurd (omega arith)
     go true y k q u j i false d g = let w : y ≡ x = cc in let v : 0 ≡ k = cc in let o : j ≡ n = omega arith in cc
     go false y k q u j i false d g = let w : y ≡ x = cc in let v : 0 ≡ k = cc in let o : j ≡ n = omega arith in cc
