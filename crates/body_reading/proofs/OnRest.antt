@@ -8,7 +8,8 @@ use Rattle.layout.specs.Reading.{Reader, Refusal, Res, bad, because, give, next
 use Rattle.layout.specs.Primitives.{Size, Width, admits, cell, checked, flag, lengthOf, refusal, unsigned}
 use Rattle.layout.specs.Rows.{Basic, boolean, items, natural, number}
 use Rattle.layout.specs.Read.{byPlace, readBasic}
-use Rattle.layout.proofs.Local.{Local, local-basic, local-checked, local-flag, local-give, local-length, local-then, local-unsigned, not-ok}
+use Rattle.layout.proofs.Kept.{kept-length}
+use Rattle.layout.proofs.Local.{Local, local-basic, local-checked, local-flag, local-give, local-then, local-unsigned, locals, not-ok}
 use Rattle.layout.proofs.Steps.{primitive-place}
 use Rattle.primitives.specs.Parts.{counted}
 use Rattle.body_reading.specs.Walk.{itemCount, on}
@@ -47,7 +48,7 @@ pub portable-counted : (z : Size) → Portable (counted z) still
 unfolding counted
 portable-counted z = record {
   moves = moves-checked true 4 z;
-  local = local-checked _ _ _ (local-length unsigned local-unsigned z);
+  local = local-checked _ _ _ (kept-length locals unsigned unsigned local-unsigned z);
   at-start = λ s e h. checked-start true 4 z s e h;
 }
 
@@ -63,7 +64,7 @@ portable-count : (w : Bool) (z : Size) → Portable (itemCount w z) still
 unfolding itemCount
 portable-count w z = record {
   moves = moves-items w z;
-  local = local-then _ _ (local-checked _ _ _ (local-length unsigned local-unsigned z)) (λ n. local-give (n - 1));
+  local = local-then _ _ (local-checked _ _ _ (kept-length locals unsigned unsigned local-unsigned z)) (λ n. local-give (n - 1));
   at-start = items-start w z;
 }
 

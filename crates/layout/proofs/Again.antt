@@ -88,7 +88,7 @@ module _ (v : ℕ) (known : v ≤ 3) where
 
     -- 7 and 11 are not given
     pub clean-again : Bytes s → fault l (meant s st l) ≡ 0
-    clean-again b = yields-read w l (at-layout Plain (plain (eraOf v))) .law 0 s (meant s st l) n b means-again
+    clean-again b = yields-read w l (at-layout Plain (plain (eraOf v))) .law 0 s (meant s st l) n b means-again .1
 
   -- the tables of a strictly accepted body, written from the same message, give the body
   pub same-bytes : (e : ℕ) (s : List ℕ) (x : Value (List ℕ) l) (st : Tables) → length s ≤ most → Bytes s → read (strict e) l 0 s ≡ ok x (length s) → readRows true append l 0 (replicate 3 []) 0 s ≡ ok st (length s) → made Api.response (pos v) s st ≡ ok s (length s)

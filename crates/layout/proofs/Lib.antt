@@ -1,6 +1,8 @@
 -- tools: tests of numbers, a reader's steps backward, sums, what holds of all texts of a value, the rows of a table
 pub mod Tests
+pub mod Kept
 pub mod Steps
+pub mod Gives
 pub mod Every
 pub mod Sums
 pub mod Chunks

@@ -7,10 +7,11 @@ use native.Mathlib.Omega.{arith}
 use lib.Dec.{leb}
 use lib.ListN.{drop, length, length-append, length-drop, take}
 use lib.Seq.{drop-at, length-take-le, take-add, take-at}
-use Rattle.layout.specs.Reading.{Reader, Refusal, Res, bad, fail, give, here, many, more, next, ok, pair, pick, placed, primitive, raw, then}
-use Rattle.layout.specs.Primitives.{Size, Width, cell, checked, compact, fixed, flag, groups, int, keeps, lengthOf, plain, sized, unsigned, w8}
-use Rattle.layout.specs.Rows.{Basic, Shape, absent, array, blob, boolean, end, field, lacking, level, natural, number, optional, text}
-use Rattle.layout.specs.Read.{Codec, read, readBasic, readBlob, readText}
+use Rattle.layout.specs.Reading.{Reader, Refusal, Res, bad, fail, give, here, more, next, ok, pick, placed, primitive, raw, then}
+use Rattle.layout.specs.Primitives.{checked, flag, unsigned}
+use Rattle.layout.specs.Rows.{Basic, Shape}
+use Rattle.layout.specs.Read.{Codec, read, readBasic}
+use Rattle.layout.proofs.Kept.{Kept, kept-basic, kept-flag, kept-read, kept-unsigned}
 use Rattle.layout.proofs.Tests.{le-true, of-le}
 
 -- a refusal is no answer
@@ -97,77 +98,33 @@ local-then {A} {B} r f hr hf = record { law = λ p s y m e. go p s y m (r p s) r
     go p s y m (ok x n) d e = inner p s y m x n d (f x (p + n) (drop n s)) refl e
     go p s y m (bad c) d e = not-ok e
 
-pub local-int : (k : ℕ) → Local (int k)
-unfolding int
-local-int k = local-then (raw k) _ (local-raw k) (λ b. local-give _)
-
-pub local-many : {A : Type 0} (n : ℕ) (r : Reader A) → Local r → Local (many n r)
-unfolding many
-local-many zero r h = local-give _
-local-many (suc n) r h = local-then r _ h (λ x. local-then (many n r) _ (local-many n r h) (λ xs. local-give _))
-
-local-groups : (k m a : ℕ) → Local (groups k m a)
-unfolding groups
-local-groups zero m a = local-then _ _ (local-int 1) (λ b. local-pick _ _ _ (local-give _) (local-fail _))
-local-groups (suc k) m a = local-then _ _ (local-int 1) (λ b. local-pick _ _ _ (local-give _) (local-groups k _ _))
+-- every step is local, and so is what is made of steps
+pub locals : Kept (λ A r q. Local r)
+locals = record {
+  on-give = local-give;
+  on-fail = λ e h g. local-fail e;
+  on-raw = local-raw;
+  on-pick = λ b r r′ q q′ h g. local-pick b r q h g;
+  on-here = λ r r′ h. local-here r h;
+  on-primitive = λ r r′ h. local-primitive r h;
+  on-then = λ r r′ f f′ h g. local-then r f h g;
+}
 
 pub local-unsigned : Local unsigned
-unfolding unsigned
-local-unsigned = local-primitive _ (local-groups _ _ _)
-
-pub local-pair : {A B : Type 0} (r : Reader A) (q : Reader B) → Local r → Local q → Local (pair r q)
-unfolding pair
-local-pair r q h g = local-then r _ h (λ x. local-then q _ g (λ y. local-give _))
-
-ruleset locals = (local-here, local-give, local-fail, local-pick, local-primitive, local-raw, local-int, local-many, local-then, local-pair)
-
-pub local-cell : (w : Width) → Local (cell w)
-unfolding cell
-local-cell w = search locals
-
-pub local-checked : (a : Bool) (e : ℕ) (len : Reader ℕ) → Local len → Local (checked a e len)
-unfolding checked
-local-checked a e len h = search locals
-
-pub local-sized : {A : Type 0} (b a : Bool) (e : ℕ) (len : Reader ℕ) (r : ℕ → Reader A) → Local len → ((n : ℕ) → Local (r n)) → Local (sized b a e len r)
-unfolding sized checked
-local-sized true a e len r h g = search (locals, g) depth 8
-local-sized false a e len r h g = search (locals, g) depth 8
-
-pub local-length : (v : Reader ℕ) → Local v → (z : Size) → Local (lengthOf v z)
-unfolding lengthOf
-local-length v h (fixed w m) = search locals
-local-length v h (compact m) = h
-local-length v h plain = search locals
+local-unsigned = kept-unsigned locals
 
 pub local-flag : Local flag
-unfolding flag
-local-flag = search locals
+local-flag = kept-flag locals
+
+-- a length, with whatever number null is refused
+pub local-checked : (a : Bool) (e : ℕ) (len : Reader ℕ) → Local len → Local (checked a e len)
+unfolding checked
+local-checked a e len h = local-primitive _ (local-then _ _ h (λ n. local-pick _ _ _ (local-pick _ _ _ (local-give 0) (local-fail e)) (local-give n)))
 
 module _ (c : Codec) (hv : Local (c .varint)) (hf : Local (c .flag)) where
-  pub local-blob : (n : ℕ) → Local (readBlob c n)
-  unfolding readBlob
-  local-blob n = search locals
-
-  pub local-text : (n : ℕ) → Local (readText c n)
-  unfolding readText
-  local-text n = search locals
-
   pub local-basic : (k : Basic) → Local (readBasic c k)
-  unfolding readBasic
-  local-basic (number w) = local-cell w
-  local-basic boolean = hf
-  local-basic level = local-cell w8
-  local-basic natural = hv
-  local-basic (text z) = local-primitive _ (local-sized (keeps z) _ _ _ _ (local-length _ hv z) local-text)
-  local-basic (blob z) = local-primitive _ (local-sized (keeps z) _ _ _ _ (local-length _ hv z) local-blob)
-  local-basic (optional d k) = local-basic k
+  local-basic = kept-basic locals (c .make) (c .whole) (c .varint) (c .varint) (c .flag) (c .flag) hv hf
 
   -- the theorem, for every shape
   pub local-read : (l : Shape) → Local (read c l)
-  unfolding read
-  local-read end = local-give tt
-  local-read (field k r) = local-pair _ _ (local-basic k) (local-read r)
-  local-read (absent k r) = local-read r
-  local-read (array z t i r) = local-pair _ _ (local-sized (keeps z) _ _ _ _ (local-length _ hv z) (λ n. local-many n _ (local-read i))) (local-read r)
-  local-read (lacking z t i r) = local-read r
+  local-read = kept-read locals (c .make) (c .whole) (c .varint) (c .varint) (c .flag) (c .flag) hv hf

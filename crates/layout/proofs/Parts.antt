@@ -18,9 +18,11 @@ use Rattle.layout.specs.Tables.{Span, slice}
 use Rattle.layout.proofs.Tests.{of-lt}
 use Rattle.layout.proofs.Codecs.{Text, by-bytes, by-place, byBoth, bytesOf, mapBasic, mapList, mapMaybe, mapValue, placeOf}
 use Rattle.layout.proofs.Every.{All, Every, EveryBasic, EveryMaybe, Few}
-use Rattle.layout.proofs.Local.{Local, local-basic, local-blob, local-checked, local-flag, local-length, local-many, local-read, local-sized, local-text, local-unsigned, not-ok}
+use Rattle.layout.proofs.Gives.{Gives, Ground, gives-give, gives-local, gives-many, gives-pair, gives-part, gives-primitive, gives-sized}
+use Rattle.layout.proofs.Kept.{kept-cell, kept-length}
+use Rattle.layout.proofs.Local.{local-flag, local-unsigned, locals, not-ok}
 use Rattle.layout.proofs.Maps.{over}
-use Rattle.layout.proofs.Steps.{Raw, int-inv, length-many, many-uncons, pair-inv, primitive-inv, raw-inv, split}
+use Rattle.layout.proofs.Steps.{Raw, int-inv, many-uncons, primitive-inv, split}
 
 -- ---- varints are below 2^64, and take a byte at least
 
@@ -153,128 +155,54 @@ Eating (lacking z t i r) = Eating r
 module _ (msg : List ℕ) where
   pub record Stands (p : ℕ) (s : List ℕ) : Type 0 where
     pub is : drop p msg ≡ s
-    pub fits : p ≤ length msg
+    pub fits : p + length s ≡ length msg
 
-  -- what r gives has P
-  pub record Gives {A : Type 0} (r : Reader A) (P : A → Type 0) : Type 0 where
-    pub law : (p : ℕ) (s : List ℕ) (x : A) (n : ℕ) → Stands p s → r p s ≡ ok x n → P x
-
-  stands-next : (p n : ℕ) (s : List ℕ) → Stands p s → n ≤ length s → Stands (p + n) (drop n s)
-  stands-next p n s h l = record {
-    is = sym (drop-drop n p msg) ∙ ap (drop n) (h .is);
-    fits = (let e : length s ≡ length msg - p = ap length (sym (h .is)) ∙ length-drop p msg in let f = h .fits in omega arith);
+  abbrev standing : Ground
+  standing = record {
+    At = Stands;
+    onward = λ p n s h l. record { is = sym (drop-drop n p msg) ∙ ap (drop n) (h .is); fits = (let f = h .fits in omega (arith, length-drop n s)) };
   }
-
-  gives-then : {A B : Type 0} (r : Reader A) (f : A → Reader B) (P : A → Type 0) (Q : B → Type 0) → Local r → Gives r P → ((x : A) → P x → Gives (f x) Q) → Gives (then r f) Q
-  gives-then r f P Q l g h = record {
-    law = λ p s y m a e.
-        let d = split r f p s y m e in
-        h (d .x) (g .law p s (d .x) (d .n) a (d .first)) .law (p + d .n) (drop (d .n) s) y (d .k) (stands-next p (d .n) s a (l .law p s (d .x) (d .n) (d .first) .fits)) (d .second);
-  }
-
-  gives-any : {A : Type 0} (r : Reader A) → Gives r (λ x. Unit {0})
-  gives-any r = record { law = λ p s x n a e. tt }
-
-  gives-give : {A : Type 0} (x : A) (P : A → Type 0) → P x → Gives (give x) P
-  unfolding give
-  gives-give x P h = record { law = λ p s y n a e. let z : x ≡ y = cc in subst P z h }
-
-  gives-pick : {A : Type 0} (b : Bool) (r q : Reader A) (P : A → Type 0) → Gives r P → Gives q P → Gives (pick b r q) P
-  unfolding pick
-  gives-pick true r q P h k = h
-  gives-pick false r q P h k = k
-
-  gives-primitive : {A : Type 0} (r : Reader A) (P : A → Type 0) → Gives r P → Gives (primitive r) P
-  gives-primitive r P g = record { law = λ p s x n a e. g .law p s x n a (primitive-inv r p s x n e) }
-
-  gives-pair : {A B : Type 0} (r : Reader A) (q : Reader B) (P : A → Type 0) (Q : B → Type 0) → Local r → Gives r P → Gives q Q → Gives (pair r q) (λ z. P (z .0) × Q (z .1))
-  gives-pair r q P Q l g h = record {
-    law = λ p s z m a e.
-        let d = pair-inv r q p s z m e in
-        (g .law p s (z .0) (d .n) a (d .first), h .law (p + d .n) (drop (d .n) s) (z .1) (d .k) (stands-next p (d .n) s a (l .law p s (z .0) (d .n) (d .first) .fits)) (d .second));
-  }
-
-  gives-many : {A : Type 0} (r : Reader A) (P : A → Type 0) → Local r → Gives r P → (n : ℕ) → Gives (many n r) (All P)
-  unfolding many
-  gives-many r P l g zero = gives-give [] (All P) tt
-  gives-many r P l g (suc n) = gives-then r _ P _ l g (λ x h. gives-then (many n r) _ (All P) _ (local-many n r l) (gives-many r P l g n) (λ xs k. gives-give (x ∷ xs) (All P) (h, k)))
-
-  gives-few : {A : Type 0} (B : ℕ) (r : Reader A) (P : A → Type 0) → Local r → Gives r P → (n : ℕ) → ((p : ℕ) (s : List ℕ) (xs : List A) (m : ℕ) → Stands p s → many n r p s ≡ ok xs m → n < B) → Gives (many n r) (Few B P)
-  gives-few B r P l g n h = record { law = λ p s xs m a e. (subst (λ (k : ℕ). k < B) (sym (length-many r n p s xs m e)) (h p s xs m a e), gives-many r P l g n .law p s xs m a e) }
-
-  gives-sized : {A : Type 0} (b t : Bool) (e : ℕ) (z : Size) (r : ℕ → Reader A) (P : A → Type 0) → ((n : ℕ) → Local (r n)) → ((n : ℕ) → Gives (r n) P) → Gives (sized b t e (lengthOf unsigned z) r) (EveryMaybe P b)
-  unfolding sized
-  gives-sized true t e z r P l g =
-      gives-then _ _ (λ n. Unit {0}) _ (local-checked true e _ (local-length _ local-unsigned z)) (gives-any _)
-      (λ n h. gives-pick _ _ _ _ (gives-give none (EveryMaybe P true) tt) (gives-then (r (n - 1)) _ P _ (l (n - 1)) (g (n - 1)) (λ x k. gives-give (some x) (EveryMaybe P true) k)))
-  gives-sized false t e z r P l g =
-      gives-then _ _ (λ n. Unit {0}) _ (local-checked t e _ (local-length _ local-unsigned z)) (gives-any _) (λ n h. g (n - 1))
 
   -- ---- texts
 
   abbrev pub Part : Text → Type 0
   Part x = (x .0 + length (x .1) ≤ length msg) × (slice msg (x .0, length (x .1)) ≡ x .1)
 
-  part-is : (p n : ℕ) (s b : List ℕ) (m : ℕ) → Stands p s → Raw n s b m → Part (p, b)
+  part-is : (n p : ℕ) (s b : List ℕ) (m : ℕ) → Stands p s → Raw n s b m → Part (p, b)
   unfolding slice
-  part-is p n s b m a r =
+  part-is n p s b m a r =
       let e : length b ≡ n = ap length (r .is) ∙ length-take-le n s (r .fits) in
-      let f : length s ≡ length msg - p = ap length (sym (a .is)) ∙ length-drop p msg in
-      let g = a .fits in
-      let h = r .fits in
-      (omega arith, rw (e, a .is) (sym (r .is)))
+      (omega (arith, a .fits, r .fits), rw (e, a .is) (sym (r .is)))
 
   module _ (B : ℕ) (small : length msg < B) (q : Bool) where
-    -- as many items as bytes, at most
-    bound : (i : Shape) → Eats i → (n p : ℕ) (s : List ℕ) (xs : List (Value Text i)) (m : ℕ) → Stands p s → many n (read (byBoth q) i) p s ≡ ok xs m → n < B
-    bound i h n p s xs m a e =
-        let k = hungry-many _ (hungry-read q i h) n p s xs m e in
-        let j = local-many n _ (local-read (byBoth q) local-unsigned local-flag i) .law p s xs m e .fits in
-        let f : length s ≡ length msg - p = ap length (sym (a .is)) ∙ length-drop p msg in
-        omega arith
+    gives-count : (z : Size) → Gives standing (lengthOf unsigned z) (λ n. Unit {0})
+    gives-count z = gives-local _ _ (kept-length locals unsigned unsigned local-unsigned z) (λ p s x n a e. tt)
 
-    gives-blob : (n : ℕ) → Gives (readBlob (byBoth q) n) Part
-    unfolding readBlob here give
-    gives-blob n = record {
-      law = λ p s x m a e.
-          let d = split (raw n) _ p s x m e in
-          let c = d .second in
-          let z : (p, d .x) ≡ x = cc in
-          subst Part z (part-is p n s (d .x) (d .n) a (raw-inv n p s (d .x) (d .n) (d .first)));
-    }
-
-    gives-text : (n : ℕ) → Gives (readText (byBoth q) n) Part
-    unfolding readText here give fail pick
-    gives-text n = record {
-      law = λ p s x m a e.
-          let d = split (raw n) _ p s x m e in
-          go p s x (d .x) (d .n) (d .k) _ a (raw-inv n p s (d .x) (d .n) (d .first)) (utf8 (d .x)) (d .second);
-    }
-      where
-        go : (p : ℕ) (s : List ℕ) (x : Text) (b : List ℕ) (i j c : ℕ) → Stands p s → Raw n s b i → (t : Bool) → pick t (give (p, b)) (fail c) (p + i) (drop i s) ≡ ok x j → Part x
-        go p s x b i j c a r true e = let z : (p, b) ≡ x = cc in subst Part z (part-is p n s b i a r)
-        go p s x b i j c a r false e = let z : _≡_ {A = ℕ} 0 1 = cc in absurd (omega arith)
-
-    gives-basic : (k : Basic) → Gives (readBasic (byBoth q) k) (EveryBasic B Part k)
-    unfolding readBasic
-    gives-basic (number w) = gives-any _
-    gives-basic boolean = gives-any _
-    gives-basic level = gives-any _
-    gives-basic natural = gives-any _
-    gives-basic (text z) = gives-primitive _ _ (gives-sized (keeps z) _ _ z _ Part (local-text (byBoth q) local-unsigned local-flag) gives-text)
-    gives-basic (blob z) = gives-primitive _ _ (gives-sized (keeps z) _ _ z _ Part (local-blob (byBoth q) local-unsigned local-flag) gives-blob)
+    gives-basic : (k : Basic) → Gives standing (readBasic (byBoth q) k) (EveryBasic B Part k)
+    unfolding readBasic readBlob readText pick
+    gives-basic (number w) = gives-local _ _ (kept-cell locals w) (λ p s x n a e. tt)
+    gives-basic boolean = gives-local _ _ local-flag (λ p s x n a e. tt)
+    gives-basic level = gives-local _ _ (kept-cell locals w8) (λ p s x n a e. tt)
+    gives-basic natural = gives-local _ _ local-unsigned (λ p s x n a e. tt)
+    gives-basic (text z) = gives-primitive _ _ (gives-sized (keeps z) _ _ _ _ _ Part (gives-count z) (λ n h. gives-part utf8 _ (n - 1) Part (λ p s b m a r t. part-is (n - 1) p s b m a r)))
+    gives-basic (blob z) = gives-primitive _ _ (gives-sized (keeps z) _ _ _ _ _ Part (gives-count z) (λ n h. gives-part (λ b. true) _ (n - 1) Part (λ p s b m a r t. part-is (n - 1) p s b m a r)))
     gives-basic (optional d k) = gives-basic k
 
-    pub gives-read : (l : Shape) → Eating l → Gives (read (byBoth q) l) (Every B Part l)
+    pub gives-read : (l : Shape) → Eating l → Gives standing (read (byBoth q) l) (Every B Part l)
     unfolding read
-    gives-read end h = gives-any _
-    gives-read (field k r) h = gives-pair _ _ (EveryBasic B Part k) (Every B Part r) (local-basic (byBoth q) local-unsigned local-flag k) (gives-basic k) (gives-read r h)
+    gives-read end h = gives-give tt _ tt
+    gives-read (field k r) h = gives-pair _ _ (EveryBasic B Part k) (Every B Part r) (gives-basic k) (gives-read r h)
     gives-read (absent k r) h = gives-read r h
     gives-read (array z t i r) h =
-        let l = local-read (byBoth q) local-unsigned local-flag i in
-        gives-pair _ _ _ (Every B Part r) (local-sized (keeps z) _ _ _ _ (local-length _ local-unsigned z) (λ n. local-many n _ l))
-        (gives-sized (keeps z) _ _ z _ (λ xs. Few B (Every B Part i) xs) (λ n. local-many n _ l)
-        (λ n. gives-few B _ (Every B Part i) l (gives-read i (h .1)) n (λ p s xs m a e. bound i (h .0) n p s xs m a e))) (gives-read r (h .2))
+        gives-pair _ _ _ (Every B Part r) (gives-sized (keeps z) _ _ _ _ _ (Few B (Every B Part i)) (gives-count z) (λ n u. few (n - 1) (gives-many _ _ (gives-read i (h .1)) (n - 1)))) (gives-read r (h .2))
+      where
+        -- as many items as bytes, at most
+        few : (n : ℕ) → Gives standing (many n (read (byBoth q) i)) (λ xs. (length xs ≡ n) × All (Every B Part i) xs) → Gives standing (many n (read (byBoth q) i)) (Few B (Every B Part i))
+        few n g = record {
+          law = λ p s xs m a e.
+              let k = g .law p s xs m a e in
+              (k .0, (omega (arith, k .0, k .1 .0, a .fits, hungry-many _ (hungry-read q i (h .0)) n p s xs m e), k .1 .1));
+        }
     gives-read (lacking z t i r) h = gives-read r h
 
 -- ---- from the two together to places, and from places to bytes
@@ -363,5 +291,5 @@ shown K q l msg x n small eats e = go (read (byBoth q) l 0 msg) refl (sym (by-pl
         let z : mapValue placeOf l y ≡ x = cc in
         let w : m ≡ n = cc in
         let d′ : read (byBoth q) l 0 msg ≡ ok y n = d ∙ ap (λ (k : ℕ). ok y k) w in
-        found y d′ (gives-read msg K small q l eats .law 0 msg y n (record { is = refl; fits = omega arith }) d′) z
+        found y d′ (gives-read msg K small q l eats .law 0 msg y n (record { is = refl; fits = omega arith }) d′ .1) z
     go (bad w) d c = not-ok c

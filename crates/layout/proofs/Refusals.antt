@@ -2,19 +2,20 @@
 use mathlib.Core.Bool.{Bool, cond, false, true}
 use mathlib.Core.List.{List, []}
 use mathlib.Core.Path.{_∙_, _≡_, ap, refl, subst, sym}
-use Prim.Native.Nat.{_+_, _-_, _≤_, suc, zero, ℕ}
+use Prim.Native.Nat.{_+_, _≤_, suc, ℕ}
 use native.Mathlib.Omega.{arith}
 use lib.Dec.{leb, ltb}
 use lib.IntN.{ℤ, negsuc, pos}
 use lib.ListN.{drop, length, length-drop, replicate, take}
-use Rattle.layout.specs.Reading.{Reader, Refusal, Res, bad, because, fail, give, here, many, more, next, ok, pair, pick, placed, primitive, raw, then}
-use Rattle.layout.specs.Primitives.{Size, cell, checked, compact, empty, fixed, flag, groups, int, keeps, kept, lengthOf, never, plain, refusal, sized, unsigned}
-use Rattle.layout.specs.Rows.{Basic, Shape, Value, absent, array, blob, boolean, end, field, lacking, level, natural, number, optional, text}
-use Rattle.layout.specs.Read.{byPlace, read, readBasic, readBlob, readText}
+use Rattle.layout.specs.Reading.{Reader, Refusal, Res, bad, because, fail, give, here, more, next, ok, pick, placed, primitive, raw, then}
+use Rattle.layout.specs.Primitives.{flag, unsigned}
+use Rattle.layout.specs.Rows.{Shape, Value}
+use Rattle.layout.specs.Read.{byPlace, read}
 use Rattle.layout.specs.Tables.{Span, Tables, append, readRows}
 use Rattle.layout.specs.Answers.{Message, ended, most, seen, shape}
+use Rattle.layout.proofs.Kept.{Kept, kept-flag, kept-read, kept-unsigned}
 use Rattle.layout.proofs.Link.{keep, link}
-use Rattle.layout.proofs.Local.{Local, local-basic, local-blob, local-checked, local-flag, local-int, local-length, local-many, local-raw, local-read, local-sized, local-text, local-unsigned}
+use Rattle.layout.proofs.Local.{Local, locals}
 use Rattle.layout.proofs.Maps.{over}
 use Rattle.layout.proofs.Tests.{of-lt}
 
@@ -85,90 +86,27 @@ tells-then {A} {B} r f l hr hf = record { law = λ p s e d. go p s e (r p s) ref
     go p s e (ok x n) i d = inner p s e n (l .law p s x n i .fits) (f x (p + n) (drop n s)) (λ c k. hf x .law (p + n) (drop n s) c k) d
     go p s e (bad c) i d = let x : c ≡ e = cc in hr .law p s e (i ∙ ap bad x)
 
-tells-int : (k : ℕ) → Tells (int k)
-unfolding int
-tells-int k = tells-then _ _ (local-raw k) (tells-raw k) (λ b. tells-give _)
+-- readers that are local and tell so: every step keeps it
+telling : Kept (λ A r q. Local r × Tells r)
+telling = record {
+  on-give = λ x. (locals .on-give x, tells-give x);
+  on-fail = λ n h g. (locals .on-fail n h g, tells-fail n h g);
+  on-raw = λ n. (locals .on-raw n, tells-raw n);
+  on-pick = λ b r r′ q q′ h g. (locals .on-pick b r r q q (h .0) (g .0), tells-pick b r q (h .1) (g .1));
+  on-here = λ r r′ h. (locals .on-here r r (λ p. h p .0), tells-here r (λ p. h p .1));
+  on-primitive = λ r r′ h. (locals .on-primitive r r (h .0), tells-primitive r (h .1));
+  on-then = λ r r′ f f′ h g. (locals .on-then r r f f (h .0) (λ x. g x .0), tells-then r f (h .0) (h .1) (λ x. g x .1));
+}
 
-tells-many : {A : Type 0} (r : Reader A) → Local r → Tells r → (n : ℕ) → Tells (many n r)
-unfolding many
-tells-many r l h zero = tells-give _
-tells-many r l h (suc n) = tells-then _ _ l h (λ x. tells-then _ _ (local-many n r l) (tells-many r l h n) (λ xs. tells-give _))
+tells-read : (w : Bool) (l : Shape) → Tells (read (byPlace w) l)
+tells-read w l = kept-read telling _ w _ unsigned _ flag (kept-unsigned telling) (kept-flag telling) l .1
 
-tells-pair : {A B : Type 0} (r : Reader A) (q : Reader B) → Local r → Local q → Tells r → Tells q → Tells (pair r q)
-unfolding pair
-tells-pair r q l k h g = tells-then _ _ l h (λ x. tells-then _ _ k g (λ y. tells-give _))
-
-tells-groups : (k m a : ℕ) → Tells (groups k m a)
-unfolding groups
-tells-groups zero m a = tells-then _ _ (local-int 1) (tells-int 1) (λ b. tells-pick _ _ _ (tells-give _) (tells-fail 5 (omega arith) (omega arith)))
-tells-groups (suc k) m a = tells-then _ _ (local-int 1) (tells-int 1) (λ b. tells-pick _ _ _ (tells-give _) (tells-groups k _ _))
-
-tells-unsigned : Tells unsigned
-unfolding unsigned
-tells-unsigned = tells-primitive _ (tells-groups 9 1 0)
-
-tells-length : (z : Size) → Tells (lengthOf unsigned z)
-unfolding lengthOf
-tells-length (fixed w m) = tells-then _ _ (local-int _) (tells-int _) (λ n. tells-pick _ _ _ (tells-give _) (tells-pick _ _ _ (tells-give _) (tells-fail 4 (omega arith) (omega arith))))
-tells-length (compact m) = tells-unsigned
-tells-length plain = tells-then _ _ local-unsigned tells-unsigned (λ n. tells-give _)
-
--- the number that refuses null
-refusal-known : (z : Size) → (3 ≤ refusal z) × (refusal z ≤ 8)
-refusal-known (fixed w never) = (omega arith, omega arith)
-refusal-known (fixed w kept) = (omega arith, omega arith)
-refusal-known (fixed w empty) = (omega arith, omega arith)
-refusal-known (compact never) = (omega arith, omega arith)
-refusal-known (compact kept) = (omega arith, omega arith)
-refusal-known (compact empty) = (omega arith, omega arith)
-refusal-known plain = (omega arith, omega arith)
-
-tells-checked : (a : Bool) (z : Size) → Tells (checked a (refusal z) (lengthOf unsigned z))
-unfolding checked
-tells-checked a z =
-    let k = refusal-known z in
-    tells-primitive _ (tells-then _ _ (local-length _ local-unsigned z) (tells-length z) (λ n. tells-pick _ _ _ (tells-pick _ _ _ (tells-give _) (tells-fail (refusal z) (k .0) (k .1))) (tells-give _)))
-
-tells-sized : {A : Type 0} (b a : Bool) (z : Size) (r : ℕ → Reader A) → ((n : ℕ) → Local (r n)) → ((n : ℕ) → Tells (r n)) → Tells (sized b a (refusal z) (lengthOf unsigned z) r)
-unfolding sized
-tells-sized true a z r l h = tells-then _ _ (local-checked _ _ _ (local-length _ local-unsigned z)) (tells-checked true z) (λ n. tells-pick _ _ _ (tells-give _) (tells-then _ _ (l (n - 1)) (h (n - 1)) (λ x. tells-give _)))
-tells-sized false a z r l h = tells-then _ _ (local-checked _ _ _ (local-length _ local-unsigned z)) (tells-checked a z) (λ n. h (n - 1))
-
-module _ (w : Bool) where
-  tells-blob : (n : ℕ) → Tells (readBlob (byPlace w) n)
-  unfolding readBlob
-  tells-blob n = tells-here _ (λ p. tells-then _ _ (local-raw n) (tells-raw n) (λ b. tells-give _))
-
-  tells-text : (n : ℕ) → Tells (readText (byPlace w) n)
-  unfolding readText
-  tells-text n = tells-here _ (λ p. tells-then _ _ (local-raw n) (tells-raw n) (λ b. tells-pick _ _ _ (tells-give _) (tells-fail 7 (omega arith) (omega arith))))
-
-  tells-basic : (k : Basic) → Tells (readBasic (byPlace w) k)
-  unfolding readBasic cell flag
-  tells-basic (number b) = tells-then _ _ (local-int _) (tells-int _) (λ n. tells-give _)
-  tells-basic boolean = tells-then _ _ (local-int 1) (tells-int 1) (λ n. tells-give _)
-  tells-basic level = tells-then _ _ (local-int _) (tells-int _) (λ n. tells-give _)
-  tells-basic natural = tells-unsigned
-  tells-basic (text z) = tells-primitive _ (tells-sized (keeps z) _ z _ (local-text (byPlace w) local-unsigned local-flag) tells-text)
-  tells-basic (blob z) = tells-primitive _ (tells-sized (keeps z) _ z _ (local-blob (byPlace w) local-unsigned local-flag) tells-blob)
-  tells-basic (optional d k) = tells-basic k
-
-  tells-read : (l : Shape) → Tells (read (byPlace w) l)
-  unfolding read
-  tells-read end = tells-give tt
-  tells-read (field k r) = tells-pair _ _ (local-basic _ local-unsigned local-flag k) (local-read _ local-unsigned local-flag r) (tells-basic k) (tells-read r)
-  tells-read (absent k r) = tells-read r
-  tells-read (array z t i r) =
-      let l = local-read (byPlace w) local-unsigned local-flag i in
-      tells-pair _ _ (local-sized (keeps z) _ _ _ _ (local-length _ local-unsigned z) (λ n. local-many n _ l)) (local-read _ local-unsigned local-flag r) (tells-sized (keeps z) _ z _ (λ n. local-many n _ l) (tells-many _ l (tells-read i))) (tells-read r)
-  tells-read (lacking z t i r) = tells-read r
-
-  pub tells-rows : {S : Type 0} (add : ℕ → List ℕ → S → S) (l : Shape) (o : ℕ) (st : S) → Tells (readRows w add l o st)
-  tells-rows {S} add l o st = record { law = λ p s e d. go p s e (read (byPlace w) l p s) refl (sym (link w add l o st .law p s) ∙ d) }
-    where
-      go : (p : ℕ) (s : List ℕ) (e : Refusal) (x : Res (Value Span l)) → read (byPlace w) l p s ≡ x → over (λ x. keep add l o x st) x ≡ bad e → Told p s e
-      go p s e (ok x n) i d = not-bad d
-      go p s e (bad c) i d = let x : c ≡ e = cc in tells-read l .law p s e (i ∙ ap bad x)
+pub tells-rows : (w : Bool) {S : Type 0} (add : ℕ → List ℕ → S → S) (l : Shape) (o : ℕ) (st : S) → Tells (readRows w add l o st)
+tells-rows w add l o st = record { law = λ p s e d. go p s e (read (byPlace w) l p s) refl (sym (link w add l o st .law p s) ∙ d) }
+  where
+    go : (p : ℕ) (s : List ℕ) (e : Refusal) (x : Res (Value Span l)) → read (byPlace w) l p s ≡ x → over (λ x. keep add l o x st) x ≡ bad e → Told p s e
+    go p s e (ok x n) i d = not-bad d
+    go p s e (bad c) i d = let x : c ≡ e = cc in tells-read w l .law p s e (i ∙ ap bad x)
 
 -- what a call refuses before it looks at the room
 pub record Refuses (s : List ℕ) (e : Refusal) : Type 0 where

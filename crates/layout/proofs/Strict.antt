@@ -2,15 +2,16 @@
 use mathlib.Core.Bool.{Bool, cond, false, true}
 use mathlib.Core.List.{List, [], _∷_}
 use mathlib.Core.Path.{_∙_, _≡_, ap, refl, subst, sym}
-use Prim.Native.Nat.{_+_, _-_, suc, zero, ℕ}
+use Prim.Native.Nat.{_+_, ℕ}
 use lib.Dec.{T, eqb, eqb→eq}
 use lib.ListN.{drop, take}
-use Rattle.layout.specs.Reading.{Reader, Res, bad, because, many, more, ok, pair, pick, placed, primitive, then}
-use Rattle.layout.specs.Primitives.{Size, checked, compact, fixed, flag, flagBytes, keeps, lengthOf, plain, sized, unsigned, unsignedBytes}
-use Rattle.layout.specs.Rows.{Basic, Shape, Value, absent, array, blob, boolean, end, field, lacking, level, natural, number, optional, text}
-use Rattle.layout.specs.Read.{Codec, byBytes, read, readBasic, readBlob, readText}
+use Rattle.layout.specs.Reading.{Reader, Res, bad, because, here, more, ok, pick, placed, primitive, then}
+use Rattle.layout.specs.Primitives.{flag, flagBytes, unsigned, unsignedBytes}
+use Rattle.layout.specs.Rows.{Shape, Value}
+use Rattle.layout.specs.Read.{Codec, byBytes, read}
 use Rattle.layout.specs.Write.{write}
 use Rattle.layout.proofs.Canon.{Bytes, Canon, Took, canon-read}
+use Rattle.layout.proofs.Kept.{Kept, kept-read}
 use Rattle.layout.proofs.Local.{not-ok}
 use Rattle.layout.proofs.Steps.{Split, primitive-inv, split, then-ok}
 
@@ -33,64 +34,24 @@ unfolding pick
 refines-pick true r q r′ q′ h k = h
 refines-pick false r q r′ q′ h k = k
 
+refines-here : {A : Type 0} (r q : ℕ → Reader A) → ((p : ℕ) → Refines (r p) (q p)) → Refines (here r) (here q)
+unfolding here
+refines-here r q h = record { law = λ p s x n e. h p .law p s x n e }
+
 refines-primitive : {A : Type 0} (r q : Reader A) → Refines r q → Refines (primitive r) (primitive q)
 unfolding primitive
 refines-primitive r q h = record { law = λ p s x n e. ap (placed p) (h .law p s x n (primitive-inv r p s x n e)) }
 
-refines-many : {A : Type 0} (r q : Reader A) → Refines r q → (n : ℕ) → Refines (many n r) (many n q)
-unfolding many
-refines-many r q h zero = refines-same _
-refines-many r q h (suc n) = refines-then _ _ _ _ h (λ x. refines-then _ _ _ _ (refines-many r q h n) (λ xs. refines-same _))
-
-refines-pair : {A B : Type 0} (r r′ : Reader A) (q q′ : Reader B) → Refines r r′ → Refines q q′ → Refines (pair r q) (pair r′ q′)
-unfolding pair
-refines-pair r r′ q q′ h k = refines-then _ _ _ _ h (λ x. refines-then _ _ _ _ k (λ y. refines-same _))
-
-refines-sized : {A : Type 0} (b a : Bool) (e : ℕ) (len len′ : Reader ℕ) (r r′ : ℕ → Reader A) → Refines len len′ → ((n : ℕ) → Refines (r n) (r′ n)) → Refines (sized b a e len r) (sized b a e len′ r′)
-unfolding sized checked
-refines-sized true a e len len′ r r′ h k =
-    refines-then _ _ _ _ (refines-primitive _ _ (refines-then _ _ _ _ h (λ n. refines-same _))) (λ n. refines-pick _ _ _ _ _ (refines-same _) (refines-then _ _ _ _ (k (n - 1)) (λ x. refines-same _)))
-refines-sized false a e len len′ r r′ h k =
-    refines-then _ _ _ _ (refines-primitive _ _ (refines-then _ _ _ _ h (λ n. refines-same _))) (λ n. k (n - 1))
-
-module _ {X : Type 0} (mk : ℕ → List ℕ → X) (q : Bool) (v v′ : Reader ℕ) (fl fl′ : Reader Bool) (hv : Refines v v′) (hf : Refines fl fl′) where
-  abbrev a : Codec
-  a = record { Text = X; make = mk; varint = v; flag = fl; whole = q }
-
-  abbrev b : Codec
-  b = record { Text = X; make = mk; varint = v′; flag = fl′; whole = q }
-
-  refines-length : (z : Size) → Refines (lengthOf v z) (lengthOf v′ z)
-  unfolding lengthOf
-  refines-length (fixed w m) = refines-same _
-  refines-length (compact m) = hv
-  refines-length plain = refines-then _ _ _ _ hv (λ n. refines-same _)
-
-  refines-blob : (n : ℕ) → Refines (readBlob a n) (readBlob b n)
-  unfolding readBlob
-  refines-blob n = refines-same _
-
-  refines-text : (n : ℕ) → Refines (readText a n) (readText b n)
-  unfolding readText
-  refines-text n = refines-same _
-
-  refines-basic : (k : Basic) → Refines (readBasic a k) (readBasic b k)
-  unfolding readBasic
-  refines-basic (number w) = refines-same _
-  refines-basic boolean = hf
-  refines-basic level = refines-same _
-  refines-basic natural = hv
-  refines-basic (text z) = refines-primitive _ _ (refines-sized (keeps z) _ _ _ _ _ _ (refines-length z) refines-text)
-  refines-basic (blob z) = refines-primitive _ _ (refines-sized (keeps z) _ _ _ _ _ _ (refines-length z) refines-blob)
-  refines-basic (optional d k) = refines-basic k
-
-  pub refines-read : (l : Shape) → Refines (read a l) (read b l)
-  unfolding read
-  refines-read end = refines-same _
-  refines-read (field k r) = refines-pair _ _ _ _ (refines-basic k) (refines-read r)
-  refines-read (absent k r) = refines-read r
-  refines-read (array z t i r) = refines-pair _ _ _ _ (refines-sized (keeps z) _ _ _ _ _ _ (refines-length z) (λ n. refines-many _ _ (refines-read i) n)) (refines-read r)
-  refines-read (lacking z t i r) = refines-read r
+refining : Kept (λ A r q. Refines r q)
+refining = record {
+  on-give = λ x. refines-same _;
+  on-fail = λ e h g. refines-same _;
+  on-raw = λ n. refines-same _;
+  on-pick = λ b r r′ q q′ h k. refines-pick b r q r′ q′ h k;
+  on-here = λ r r′ h. refines-here r r′ h;
+  on-primitive = λ r r′ h. refines-primitive r r′ h;
+  on-then = λ r r′ f f′ h k. refines-then r r′ f f′ h k;
+}
 
 -- ---- a reader that takes only what would be written so; the number with which it refuses the rest has no part here
 
@@ -151,6 +112,6 @@ strict e = record { Text = List ℕ; make = λ p b. b; varint = exact e unsigned
 -- the theorem: what the strict reader accepts the whole read accepts alike, and its bytes are what the writer writes of its value
 pub canonical : (e : ℕ) (l : Shape) (s : List ℕ) (x : Value (List ℕ) l) (n : ℕ) → Bytes s → read (strict e) l 0 s ≡ ok x n → (read (byBytes true) l 0 s ≡ ok x n) × (write l x ≡ take n s)
 canonical e l s x n h d = (
-  refines-read (λ p b. b) true _ unsigned _ flag (refines-exact e unsignedBytes unsigned) (refines-exact e flagBytes flag) l .law 0 s x n d,
+  kept-read refining (λ p b. b) true _ unsigned _ flag (refines-exact e unsignedBytes unsigned) (refines-exact e flagBytes flag) l .law 0 s x n d,
   canon-read _ _ (canon-exact e unsignedBytes unsigned) (canon-exact e flagBytes flag) l .law 0 s x n h d .same,
 )
