@@ -1,15 +1,15 @@
 -- Two ways of keeping rows that agree store by store agree on every body: for all shapes.
-use mathlib.Core.Bool.{Bool, false, true}
+use mathlib.Core.Bool.{Bool}
 use mathlib.Core.List.{List, [], _∷_}
-use mathlib.Core.Option.{none, some}
 use mathlib.Core.Path.{_≡_, subst, sym}
 use Prim.Native.Nat.{ℕ}
 use Rattle.layout.specs.Reading.{Refusal, Res, bad, ok}
-use Rattle.layout.specs.Primitives.{Maybe, keeps}
+use Rattle.layout.specs.Primitives.{keeps}
 use Rattle.layout.specs.Rows.{Shape, Value, absent, array, end, field, lacking}
 use Rattle.layout.specs.Read.{byPlace, read}
 use Rattle.layout.specs.Tables.{Span, absentCells, absentCount, cells, readRows}
-use Rattle.layout.proofs.Link.{fold, foldMaybe, itemsCell, keep, link}
+use Rattle.layout.proofs.Every.{listOf}
+use Rattle.layout.proofs.Link.{fold, itemsCell, keep, link}
 use Rattle.layout.proofs.Maps.{over}
 
 -- the same refusal, or the same bytes used and what stands in R
@@ -22,11 +22,6 @@ module _ {S U : Type 0} (R : S → U → Type 0) where
   fold-alike f g h [] x y c = c
   fold-alike f g h (a ∷ vs) x y c = fold-alike f g h vs (f a x) (g a y) (h a x y c)
 
-  maybe-alike : {A : Type 0} (b : Bool) (f : A → S → S) (g : A → U → U) → ((a : A) (x : S) (y : U) → R x y → R (f a x) (g a y)) → (vs : Maybe b (List A)) (x : S) (y : U) → R x y → R (foldMaybe b f vs x) (foldMaybe b g vs y)
-  maybe-alike true f g h none x y c = c
-  maybe-alike true f g h (some vs) x y c = fold-alike f g h vs x y c
-  maybe-alike false f g h vs x y c = fold-alike f g h vs x y c
-
   module _ (f : ℕ → List ℕ → S → S) (g : ℕ → List ℕ → U → U) (step : (t : ℕ) (cs : List ℕ) (x : S) (y : U) → R x y → R (f t cs x) (g t cs y)) where
     pub keep-alike : (l : Shape) (o : ℕ) (v : Value Span l) (x : S) (y : U) → R x y → R (keep f l o v x) (keep g l o v y)
     unfolding keep
@@ -35,7 +30,7 @@ module _ {S U : Type 0} (R : S → U → Type 0) where
     keep-alike (absent k r) o v x y c = keep-alike r o v _ _ (step o (absentCells k) x y c)
     keep-alike (array z t i r) o v x y c =
         keep-alike r o (v .1) _ _
-        (maybe-alike (keeps z) (keep f i t) (keep g i t) (λ a x′ y′ d. keep-alike i t a x′ y′ d) (v .0) _ _ (step o (itemsCell (Value Span i) (keeps z) (v .0) ∷ []) x y c))
+        (fold-alike (keep f i t) (keep g i t) (λ a x′ y′ d. keep-alike i t a x′ y′ d) (listOf (keeps z) (v .0)) _ _ (step o (itemsCell (Value Span i) (keeps z) (v .0) ∷ []) x y c))
     keep-alike (lacking z t i r) o v x y c = keep-alike r o v _ _ (step o (absentCount z ∷ []) x y c)
 
     over-alike : {A : Type 0} (h : A → S) (k : A → U) → ((a : A) → R (h a) (k a)) → (o : Res A) → Alike R (over h o) (over k o)

@@ -10,7 +10,8 @@ use Rattle.layout.specs.Reading.{Reader}
 use Rattle.layout.specs.Primitives.{Maybe, flag, keeps, sized, unsigned, varint}
 use Rattle.layout.specs.Rows.{Basic, BasicValue, Shape, Value, absent, array, blob, boolean, end, field, lacking, level, natural, number, optional, text}
 use Rattle.layout.specs.Read.{Codec, byBytes, byPlace, read, readBasic, readBlob, readText}
-use Rattle.layout.proofs.Maps.{Maps, maps-fail, maps-give, maps-here, maps-is, maps-many, maps-next, maps-pair, maps-pick, maps-primitive, maps-same}
+use Rattle.layout.proofs.Every.{listOf}
+use Rattle.layout.proofs.Maps.{Maps, maps-fail, maps-give, maps-here, maps-many, maps-next, maps-pair, maps-pick, maps-primitive, maps-same}
 
 -- ---- a value's texts, changed
 
@@ -29,28 +30,23 @@ module _ {X Y : Type 0} (g : X → Y) where
   mapBasic (blob z) x = mapMaybe (keeps z) x
   mapBasic (optional d k) x = mapBasic k x
 
-abbrev pub mapList : {A B : Type 0} (b : Bool) → (A → B) → Maybe b (List A) → Maybe b (List B)
-mapList true g none = none
-mapList true g (some xs) = some (map g xs)
-mapList false g xs = map g xs
-
 abbrev pub mapValue : {X Y : Type 0} (g : X → Y) (l : Shape) → Value X l → Value Y l
 mapValue g end x = tt
 mapValue g (field k r) x = (mapBasic g k (x .0), mapValue g r (x .1))
 mapValue g (absent k r) x = mapValue g r x
-mapValue g (array z t i r) x = (mapList (keeps z) (mapValue g i) (x .0), mapValue g r (x .1))
+mapValue g (array z t i r) x = (mapMaybe (map (mapValue g i)) (keeps z) (x .0), mapValue g r (x .1))
 mapValue g (lacking z t i r) x = mapValue g r x
+
+pub list-map : {A B : Type 0} (f : A → B) (b : Bool) (xs : Maybe b (List A)) → listOf b (mapMaybe (map f) b xs) ≡ map f (listOf b xs)
+list-map f true none = refl
+list-map f true (some xs) = refl
+list-map f false xs = refl
 
 maps-sized : {A S : Type 0} (b a : Bool) (e : ℕ) (len : Reader ℕ) (rs : ℕ → Reader S) (r : ℕ → Reader A) (g : A → S) → ((n : ℕ) → Maps (rs n) (r n) g) → Maps (sized b a e len rs) (sized b a e len r) (mapMaybe g b)
 unfolding sized
 maps-sized true a e len rs r g h =
     maps-next _ _ (λ n. n) _ _ _ (maps-same _) (λ n. maps-pick _ _ _ _ _ _ (maps-give (mapMaybe g true) none) (maps-next _ _ g _ _ _ (h (n - 1)) (λ x. maps-give (mapMaybe g true) (some x))))
 maps-sized false a e len rs r g h = maps-next _ _ (λ n. n) _ _ _ (maps-same _) (λ n. h (n - 1))
-
-maybe-list : {A B : Type 0} (g : A → B) (b : Bool) (x : Maybe b (List A)) → mapMaybe (map g) b x ≡ mapList b g x
-maybe-list g true none = refl
-maybe-list g true (some xs) = refl
-maybe-list g false xs = refl
 
 module _ {X Y : Type 0} (g : X → Y) (mk : ℕ → List ℕ → X) (v : Reader ℕ) (fl : Reader Bool) (q : Bool) where
   abbrev pub fine : Codec
@@ -83,7 +79,7 @@ module _ {X Y : Type 0} (g : X → Y) (mk : ℕ → List ℕ → X) (v : Reader 
   codecs (field k r) = maps-pair _ _ _ _ _ _ (maps-basic k) (codecs r)
   codecs (absent k r) = codecs r
   codecs (array z t i r) =
-      maps-pair _ _ _ _ _ _ (maps-is _ _ _ _ (maybe-list (mapValue g i) (keeps z)) (maps-sized (keeps z) _ _ _ _ _ (map (mapValue g i)) (λ n. maps-many _ _ (mapValue g i) (codecs i) n))) (codecs r)
+      maps-pair _ _ _ _ _ _ (maps-sized (keeps z) _ _ _ _ _ (map (mapValue g i)) (λ n. maps-many _ _ (mapValue g i) (codecs i) n)) (codecs r)
   codecs (lacking z t i r) = codecs r
 
 -- a text as its place and its bytes: of it both of the others come

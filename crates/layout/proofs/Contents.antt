@@ -2,7 +2,6 @@
 -- So the need that 10 tells is the number of those rows.
 use mathlib.Core.Bool.{Bool, cond, false, true}
 use mathlib.Core.List.{List, [], _++_, _∷_, append-assoc, append-nil}
-use mathlib.Core.Option.{none, some}
 use mathlib.Core.Path.{_∙_, _≡_, ap, refl, subst, sym}
 use Prim.Native.Nat.{_*_, _+_, _/_, _<_, suc, zero, ℕ}
 use native.Mathlib.Nat.{add-comm, mul-div-cancel, suc-mul, zero-mul}
@@ -10,17 +9,17 @@ use lib.Dec.{eqb}
 use lib.ListN.{getD, length, length-append, length-replicate, replicate}
 use lib.Seq.{drop-at, getD-set-other, getD-set-same, take-at}
 use Rattle.layout.specs.Reading.{Res, bad, ok}
-use Rattle.layout.specs.Primitives.{Maybe, keeps}
+use Rattle.layout.specs.Primitives.{keeps}
 use Rattle.layout.specs.Rows.{Shape, Value, absent, array, end, field, lacking}
 use Rattle.layout.specs.Read.{byPlace, read}
 use Rattle.layout.specs.Tables.{Span, Tables, absentCells, absentCount, append, cells, chunks, readRows, rowWidth, rowsOf}
 use Rattle.layout.proofs.Tests.{of-eq, of-ne}
 use Rattle.layout.proofs.Decode.{absent-width, cells-width}
-use Rattle.layout.proofs.Every.{All, Within, all-append}
+use Rattle.layout.proofs.Every.{All, Within, all-append, listOf}
 use Rattle.layout.proofs.Link.{itemsCell, keep, link}
 use Rattle.layout.proofs.Local.{not-ok}
 use Rattle.layout.proofs.Maps.{over}
-use Rattle.layout.proofs.Same.{lay, layAll, layMaybe, moves, push, same-tables}
+use Rattle.layout.proofs.Same.{lay, layAll, moves, push, same-tables}
 
 -- ---- the rows of a value
 
@@ -35,11 +34,6 @@ abbrev pub flatten : {A B : Type 0} → (A → List B) → List A → List B
 flatten g [] = []
 flatten g (x ∷ xs) = g x ++ flatten g xs
 
-abbrev pub flattenMaybe : {A B : Type 0} (b : Bool) → (A → List B) → Maybe b (List A) → List B
-flattenMaybe true g none = []
-flattenMaybe true g (some xs) = flatten g xs
-flattenMaybe false g xs = flatten g xs
-
 abbrev pub joined : List (List ℕ) → List ℕ
 joined rs = flatten (λ r. r) rs
 
@@ -48,7 +42,7 @@ unfoldable pub rowsIn : ℕ → (l : Shape) → Value Span l → List (List ℕ)
 rowsIn t end x = []
 rowsIn t (field k r) x = rowsIn t r (x .1)
 rowsIn t (absent k r) x = rowsIn t r x
-rowsIn t (array z u i r) x = flattenMaybe (keeps z) (λ y. cond (eqb t u) (rowCells i y ∷ []) (rowsIn t i y)) (x .0) ++ rowsIn t r (x .1)
+rowsIn t (array z u i r) x = flatten (λ y. cond (eqb t u) (rowCells i y ∷ []) (rowsIn t i y)) (listOf (keeps z) (x .0)) ++ rowsIn t r (x .1)
 rowsIn t (lacking z u i r) x = rowsIn t r x
 
 -- ---- table o is none of those that l names
@@ -72,18 +66,13 @@ pub flatten-none : {A B : Type 0} (g : A → List B) → ((x : A) → g x ≡ []
 flatten-none g h [] = refl
 flatten-none g h (x ∷ xs) = λ i. (h x i) ++ flatten-none g h xs i
 
-pub maybe-none : {A B : Type 0} (b : Bool) (g : A → List B) → ((x : A) → g x ≡ []) → (xs : Maybe b (List A)) → flattenMaybe b g xs ≡ []
-maybe-none true g h none = refl
-maybe-none true g h (some xs) = flatten-none g h xs
-maybe-none false g h xs = flatten-none g h xs
-
 pub free-rows : (o : ℕ) (l : Shape) (x : Value Span l) → Free o l → rowsIn o l x ≡ []
 unfolding rowsIn
 free-rows o end x h = refl
 free-rows o (field k r) x h = free-rows o r (x .1) h
 free-rows o (absent k r) x h = free-rows o r x h
 free-rows o (array z u i r) x h =
-    λ j. maybe-none (keeps z) (λ y. cond (eqb o u) (rowCells i y ∷ []) (rowsIn o i y)) (λ y. ap (λ (b : Bool). cond b (rowCells i y ∷ []) (rowsIn o i y)) (h .0) ∙ free-rows o i y (h .1)) (x .0) j ++ free-rows o r (x .1) (h .2) j
+    λ j. flatten-none (λ y. cond (eqb o u) (rowCells i y ∷ []) (rowsIn o i y)) (λ y. ap (λ (b : Bool). cond b (rowCells i y ∷ []) (rowsIn o i y)) (h .0) ∙ free-rows o i y (h .1)) (listOf (keeps z) (x .0)) j ++ free-rows o r (x .1) (h .2) j
 free-rows o (lacking z u i r) x h = free-rows o r x h
 
 -- ---- one push
@@ -114,12 +103,6 @@ module _ (N : ℕ) where
       let r = items-in t g f h xs st e in
       let a = h x (layAll g xs st) (r .1) in
       (a .0 ∙ ap (λ (z : List ℕ). joined (f x) ++ z) (r .0) ∙ sym (append-assoc (joined (f x)) (joined (flatten f xs)) (getD st t [])) ∙ ap (λ (z : List ℕ). z ++ getD st t []) (sym (joined-append (f x) (flatten f xs))), a .1)
-
-  maybe-in : (A : Type 0) (b : Bool) (t : ℕ) (g : A → Tables → Tables) (f : A → List (List ℕ)) → ((y : A) (st : Tables) → length st ≡ N → (getD (g y st) t [] ≡ joined (f y) ++ getD st t []) × (length (g y st) ≡ N)) →
-      (xs : Maybe b (List A)) (st : Tables) → length st ≡ N → (getD (layMaybe A b g xs st) t [] ≡ joined (flattenMaybe b f xs) ++ getD st t []) × (length (layMaybe A b g xs st) ≡ N)
-  maybe-in A true t g f h none st e = (refl, e)
-  maybe-in A true t g f h (some xs) st e = items-in t g f h xs st e
-  maybe-in A false t g f h xs st e = items-in t g f h xs st e
 
   -- su is st with, in front, a row in table o and other rows in the other tables
   pub record In (o : ℕ) (st su : Tables) (own : List ℕ) (rows : ℕ → List (List ℕ)) : Type 0 where
@@ -160,12 +143,13 @@ module _ (N : ℕ) where
   contents (absent k r) o x st e h w f sep = pushed o st _ (absentCells k) _ _ h (length-lay r o x st e) (contents r o x st e h w f sep)
   contents (array z u i r) o x st e h w f sep =
       let S = lay r o (x .1) st in
+      let xs = listOf (keeps z) (x .0) in
       let F : ℕ → Value Span i → List (List ℕ) = λ t y. cond (eqb t u) (rowCells i y ∷ []) (rowsIn t i y) in
-      let p : (t : ℕ) → (getD (layMaybe (Value Span i) (keeps z) (lay i u) (x .0) S) t [] ≡ joined (flattenMaybe (keeps z) (F t) (x .0)) ++ getD S t []) × (length (layMaybe (Value Span i) (keeps z) (lay i u) (x .0) S) ≡ N) =
-      λ t. maybe-in (Value Span i) (keeps z) t (lay i u) (F t) (item-in i u (λ y su k. contents i u y su k (w .0) (w .1) (sep .0) (sep .1)) t) (x .0) S (length-lay r o (x .1) st e) in
-      let q : flattenMaybe (keeps z) (F o) (x .0) ≡ [] = maybe-none (keeps z) (F o) (λ y. ap (λ (b : Bool). cond b (rowCells i y ∷ []) (rowsIn o i y)) (f .0) ∙ free-rows o i y (f .1)) (x .0) in
+      let p : (t : ℕ) → (getD (layAll (lay i u) xs S) t [] ≡ joined (flatten (F t) xs) ++ getD S t []) × (length (layAll (lay i u) xs S) ≡ N) =
+      λ t. items-in t (lay i u) (F t) (item-in i u (λ y su k. contents i u y su k (w .0) (w .1) (sep .0) (sep .1)) t) xs S (length-lay r o (x .1) st e) in
+      let q : flatten (F o) xs ≡ [] = flatten-none (F o) (λ y. ap (λ (b : Bool). cond b (rowCells i y ∷ []) (rowsIn o i y)) (f .0) ∙ free-rows o i y (f .1)) xs in
       pushed o st _ (itemsCell (Value Span i) (keeps z) (x .0) ∷ []) (rowCells r (x .1)) _ h (p o .1)
-      (joining o st S _ (rowCells r (x .1)) (λ t. flattenMaybe (keeps z) (F t) (x .0)) (λ t. rowsIn t r (x .1)) q (λ t. p t .0) (contents r o (x .1) st e h (w .2) (f .2) (sep .2)))
+      (joining o st S _ (rowCells r (x .1)) (λ t. flatten (F t) xs) (λ t. rowsIn t r (x .1)) q (λ t. p t .0) (contents r o (x .1) st e h (w .2) (f .2) (sep .2)))
   contents (lacking z u i r) o x st e h w f sep = pushed o st _ (absentCount z ∷ []) (rowCells r x) _ h (length-lay r o x st e) (contents r o x st e h w f sep)
 
 -- ---- the tables of a read
@@ -225,18 +209,13 @@ module _ (W : ℕ → ℕ) where
   all-flatten P g h [] = tt
   all-flatten P g h (x ∷ xs) = all-append P (g x) (flatten g xs) (h x) (all-flatten P g h xs)
 
-  all-maybe : {A B : Type 0} (P : B → Type 0) (b : Bool) (g : A → List B) → ((x : A) → All P (g x)) → (xs : Maybe b (List A)) → All P (flattenMaybe b g xs)
-  all-maybe P true g h none = tt
-  all-maybe P true g h (some xs) = all-flatten P g h xs
-  all-maybe P false g h xs = all-flatten P g h xs
-
   pub rows-wide : (t : ℕ) (l : Shape) (x : Value Span l) → Wide l → All (Row t) (rowsIn t l x)
   unfolding rowsIn
   rows-wide t end x h = tt
   rows-wide t (field k r) x h = rows-wide t r (x .1) h
   rows-wide t (absent k r) x h = rows-wide t r x h
   rows-wide t (array z u i r) x h =
-      all-append (Row t) (flattenMaybe (keeps z) (λ y. cond (eqb t u) (rowCells i y ∷ []) (rowsIn t i y)) (x .0)) (rowsIn t r (x .1)) (all-maybe (Row t) (keeps z) (λ y. cond (eqb t u) (rowCells i y ∷ []) (rowsIn t i y)) (λ y. go y (rows-wide t i y (h .1)) (eqb t u) refl) (x .0)) (rows-wide t r (x .1) (h .2))
+      all-append (Row t) (flatten (λ y. cond (eqb t u) (rowCells i y ∷ []) (rowsIn t i y)) (listOf (keeps z) (x .0))) (rowsIn t r (x .1)) (all-flatten (Row t) (λ y. cond (eqb t u) (rowCells i y ∷ []) (rowsIn t i y)) (λ y. go y (rows-wide t i y (h .1)) (eqb t u) refl) (listOf (keeps z) (x .0))) (rows-wide t r (x .1) (h .2))
     where
       go : (y : Value Span i) → All (Row t) (rowsIn t i y) → (b : Bool) → eqb t u ≡ b → All (Row t) (cond b (rowCells i y ∷ []) (rowsIn t i y))
       go y a true e = (row-width i y ∙ sym (h .0) ∙ ap W (sym (of-eq t u e)), tt)

@@ -29,6 +29,17 @@ EveryMaybe P false x = P x
 abbrev pub Few : {A : Type 0} → ℕ → (A → Type 0) → List A → Type 0
 Few B P xs = (length xs < B) × All P xs
 
+-- the items that are there: null has none
+abbrev pub listOf : {A : Type 0} (b : Bool) → Maybe b (List A) → List A
+listOf true none = []
+listOf true (some xs) = xs
+listOf false xs = xs
+
+pub few-list : {A : Type 0} (B : ℕ) (P : A → Type 0) (b : Bool) (xs : Maybe b (List A)) → 0 < B → EveryMaybe (Few B P) b xs → Few B P (listOf b xs)
+few-list B P true none z h = (z, tt)
+few-list B P true (some xs) z h = h
+few-list B P false xs z h = h
+
 -- P of every text, and less than B items in every list
 module _ {X : Type 0} (B : ℕ) (P : X → Type 0) where
   abbrev pub EveryBasic : (k : Basic) → BasicValue X k → Type 0
@@ -44,7 +55,7 @@ module _ {X : Type 0} (B : ℕ) (P : X → Type 0) where
   Every end x = Unit {0}
   Every (field k r) x = EveryBasic k (x .0) × Every r (x .1)
   Every (absent k r) x = Every r x
-  Every (array z t i r) x = EveryMaybe (λ xs. Few B (Every i) xs) (keeps z) (x .0) × Every r (x .1)
+  Every (array z t i r) x = EveryMaybe (Few B (Every i)) (keeps z) (x .0) × Every r (x .1)
   Every (lacking z t i r) x = Every r x
 
 pub all-append : {A : Type 0} (P : A → Type 0) (xs ys : List A) → All P xs → All P ys → All P (xs ++ ys)

@@ -13,9 +13,9 @@ use borrow.Author.Tests.{eq-eqb, ne-eqb}
 use Rattle.layout.specs.Primitives.{Maybe, Size, compact, empty, fixed, keeps, kept, minus, never, plain}
 use Rattle.layout.specs.Rows.{Basic, BasicValue, Shape, Value, absent, array, blob, boolean, end, field, lacking, level, natural, number, optional, text}
 use Rattle.layout.specs.Tables.{Span, Tables, absentCells, absentCount, addsUp, all, asked, cells, count, from, good, goodCells, goodCount, goodRow, goodSpan, inside, kindOf, lacks, rowWidth, rowsAt, rowsOf, span, sum, width}
-use Rattle.layout.proofs.Contents.{Free, Holds, Tree, Wide, flatten, flattenMaybe, free-rows, rowCells, rows-back, rows-wide, rowsIn}
-use Rattle.layout.proofs.Decode.{absent-width, cells-width, count-is}
-use Rattle.layout.proofs.Every.{All, Every, EveryBasic, EveryMaybe, Few, Within, all-append}
+use Rattle.layout.proofs.Contents.{Free, Holds, Tree, Wide, flatten, free-rows, rowCells, rows-back, rows-wide, rowsIn}
+use Rattle.layout.proofs.Decode.{absent-width, cells-width, count-is, count-list}
+use Rattle.layout.proofs.Every.{All, Every, EveryBasic, EveryMaybe, Few, Within, all-append, few-list, listOf}
 use Rattle.layout.proofs.Link.{itemsCell}
 use Rattle.layout.proofs.Parts.{Eating, shown}
 use Rattle.layout.proofs.Sums.{length-flatten, one-of, sum-add, sum-append, sum-eq, sum-flatten, sum-ones, sum-same, sum-swap, sum-zero}
@@ -131,11 +131,6 @@ module _ (size : ℕ) where
   in-flatten P Q g h [] q = tt
   in-flatten P Q g h (x ∷ xs) q = all-append P (g x) (flatten g xs) (h x (q .0)) (in-flatten P Q g h xs (q .1))
 
-  in-maybe : {A B : Type 0} (P : B → Type 0) (Q : A → Type 0) (b : Bool) (g : A → List B) → ((x : A) → Q x → All P (g x)) → (xs : Maybe b (List A)) → EveryMaybe (λ xs. Few half Q xs) b xs → All P (flattenMaybe b g xs)
-  in-maybe P Q true g h none q = tt
-  in-maybe P Q true g h (some xs) q = in-flatten P Q g h xs (q .1)
-  in-maybe P Q false g h xs q = in-flatten P Q g h xs (q .1)
-
   module _ (L : Shape) (t : ℕ) where
     abbrev Is : List ℕ → Type 0
     Is r = goodRow size (kindOf t L) r ≡ true
@@ -146,8 +141,8 @@ module _ (size : ℕ) where
     rows-good (field c r) x k z h = rows-good r (x .1) k z (h .1)
     rows-good (absent c r) x k z h = rows-good r x k z h
     rows-good (array s u i r) x k z h =
-        all-append Is (flattenMaybe (keeps s) (λ y. cond (eqb t u) (rowCells i y ∷ []) (rowsIn t i y)) (x .0)) (rowsIn t r (x .1))
-        (in-maybe Is (Every half InSize i) (keeps s) (λ y. cond (eqb t u) (rowCells i y ∷ []) (rowsIn t i y)) (λ y q. go y q (rows-good i y (k .1) (z .0) q) (eqb t u) refl) (x .0) (h .0)) (rows-good r (x .1) (k .2) (z .1) (h .1))
+        all-append Is (flatten (λ y. cond (eqb t u) (rowCells i y ∷ []) (rowsIn t i y)) (listOf (keeps s) (x .0))) (rowsIn t r (x .1))
+        (in-flatten Is (Every half InSize i) (λ y. cond (eqb t u) (rowCells i y ∷ []) (rowsIn t i y)) (λ y q. go y q (rows-good i y (k .1) (z .0) q) (eqb t u) refl) (listOf (keeps s) (x .0)) (few-list half _ (keeps s) (x .0) (lit< tt) (h .0) .1)) (rows-good r (x .1) (k .2) (z .1) (h .1))
       where
         go : (y : Value Span i) → Every half InSize i y → All Is (rowsIn t i y) → (b : Bool) → eqb t u ≡ b → All Is (cond b (rowCells i y ∷ []) (rowsIn t i y))
         go y q a true e = (ap (λ (j : Shape). goodRow size j (rowCells i y)) (ap (λ (w : ℕ). kindOf w L) (of-eq t u e) ∙ k .0) ∙ good-row i y (z .0) q, tt)
@@ -155,27 +150,6 @@ module _ (size : ℕ) where
     rows-good (lacking s u i r) x k z h = rows-good r x k (z .1) h
 
 -- ---- the counts add up
-
-abbrev listOf : {A : Type 0} (b : Bool) → Maybe b (List A) → List A
-listOf true none = []
-listOf true (some xs) = xs
-listOf false xs = xs
-
-maybe-list : {A B : Type 0} (b : Bool) (f : A → List B) (xs : Maybe b (List A)) → flattenMaybe b f xs ≡ flatten f (listOf b xs)
-maybe-list true f none = refl
-maybe-list true f (some xs) = refl
-maybe-list false f xs = refl
-
-list-all : {A : Type 0} (Q : A → Type 0) (b : Bool) (xs : Maybe b (List A)) → EveryMaybe (λ xs. Few half Q xs) b xs → All Q (listOf b xs)
-list-all Q true none h = tt
-list-all Q true (some xs) h = h .1
-list-all Q false xs h = h .1
-
-count-list : (A : Type 0) (Q : A → Type 0) (b : Bool) (xs : Maybe b (List A)) → EveryMaybe (λ xs. Few half Q xs) b xs → count (itemsCell A b xs) ≡ length (listOf b xs)
-unfolding count
-count-list A Q true none h = refl
-count-list A Q true (some xs) h = let l = h .0 in rw (not-minus (length xs) (omega arith))
-count-list A Q false xs h = let l = h .0 in rw (not-minus (length xs) (omega arith))
 
 -- an array that the version lacks asks for no rows
 lacking-count : (z : Size) → keeps z ≡ false → count (absentCount z) ≡ 0
@@ -242,16 +216,15 @@ module _ (P : Span → Type 0) (L : Shape) (n t : ℕ) where
       let xs = listOf (keeps b) (x .0) in
       let low : 1 ≤ v = nonzero v (swapped v (f .0)) in
       let high : v < 1 + n = (let g = w .0 in omega arith) in
-      let items : (u : ℕ) → flattenMaybe (keeps b) (λ y. part i v y u) (x .0) ++ rowsIn u r (x .1) ≡ flatten (λ y. part i v y u) xs ++ rowsIn u r (x .1) =
-      λ u. ap (λ (rs : List (List ℕ)). rs ++ rowsIn u r (x .1)) (maybe-list (keeps b) (λ y. part i v y u) (x .0)) in
+      let few = few-list half (Every half P i) (keeps b) (x .0) (lit< tt) (h .0) in
       array-adds _ _ _ _ _ _ _ _ _ _
-      (ap (λ (m : ℕ). cond (eqb t v) m 0 + asked t r (rowCells r (x .1))) (count-list (Value Span i) (Every half P i) (keeps b) (x .0) (h .0)))
-      (sum-eq _ _ (λ u. ap (sum (asks u)) (items u) ∙ sum-append (asks u) (flatten (λ y. part i v y u) xs) (rowsIn u r (x .1))) (from 1 n) ∙ sum-add (λ u. sum (asks u) (flatten (λ y. part i v y u) xs)) (λ u. sum (asks u) (rowsIn u r (x .1))) (from 1 n))
+      (ap (λ (m : ℕ). cond (eqb t v) m 0 + asked t r (rowCells r (x .1))) (count-list (Value Span i) (keeps b) (x .0) (let l = few .0 in omega arith)))
+      (sum-eq _ _ (λ u. sum-append (asks u) (flatten (λ y. part i v y u) xs) (rowsIn u r (x .1))) (from 1 n) ∙ sum-add (λ u. sum (asks u) (flatten (λ y. part i v y u) xs)) (λ u. sum (asks u) (rowsIn u r (x .1))) (from 1 n))
       (sum-eq _ _ (λ u. sum-flatten (asks u) (λ y. part i v y u) xs) (from 1 n) ∙ sum-swap (λ u y. sum (asks u) (part i v y u)) (from 1 n) xs
-      ∙ sum-same (Every half P i) _ _ (λ y q. item-total i v y (s .0) (k .0) low high ∙ adds i y (w .1) (f .1) (s .1) (k .1) (z .0) q) xs (list-all (Every half P i) (keeps b) (x .0) (h .0)))
+      ∙ sum-same (Every half P i) _ _ (λ y q. item-total i v y (s .0) (k .0) low high ∙ adds i y (w .1) (f .1) (s .1) (k .1) (z .0) q) xs (few .1))
       (adds r (x .1) (w .2) (f .2) (s .2) (k .2) (z .1) (h .1))
       (items-rows i v (s .0) xs)
-      (ap length (items t) ∙ length-append (flatten (λ y. part i v y t) xs) (rowsIn t r (x .1)))
+      (length-append (flatten (λ y. part i v y t) xs) (rowsIn t r (x .1)))
   adds (lacking b v i r) x w f s k z h =
       ap (λ (m : ℕ). m + asked t r (rowCells r x) + sum (λ u. sum (asks u) (rowsIn u r x)) (from 1 n)) (no-count b v (z .0)) ∙ ap (λ (m : ℕ). m + sum (λ u. sum (asks u) (rowsIn u r x)) (from 1 n)) (zero-add _) ∙ adds r x w f s k (z .1) h
 

@@ -12,6 +12,7 @@ use Rattle.layout.specs.Primitives.{Maybe, Null, Size, admits, admitsNul
 use Rattle.layout.specs.Rows.{Shape, Value, absent, array, end, field, lacking}
 use Rattle.layout.specs.Read.{byPlace, read}
 use Rattle.layout.specs.Tables.{Span, absentCells, absentCount, cells, countCell, readRows}
+use Rattle.layout.proofs.Every.{listOf}
 use Rattle.layout.proofs.Tests.{of-eq}
 use Rattle.layout.proofs.Maps.{Maps, always, maps-assoc, maps-give, maps-last, maps-same, maps-then}
 use Rattle.layout.proofs.Steps.{length-many, split}
@@ -21,11 +22,6 @@ use Rattle.layout.proofs.Steps.{length-many, split}
 abbrev pub fold : {A S : Type 0} → (A → S → S) → List A → S → S
 fold g [] st = st
 fold g (x ∷ xs) st = fold g xs (g x st)
-
-abbrev pub foldMaybe : {A S : Type 0} (b : Bool) → (A → S → S) → Maybe b (List A) → S → S
-foldMaybe true g none st = st
-foldMaybe true g (some xs) st = fold g xs st
-foldMaybe false g xs st = fold g xs st
 
 -- an array's cell
 abbrev pub itemsCell : (A : Type 0) (b : Bool) → Maybe b (List A) → ℕ
@@ -38,7 +34,7 @@ module _ {S : Type 0} (add : ℕ → List ℕ → S → S) where
   keep end o x st = st
   keep (field k r) o x st = keep r o (x .1) (add o (cells k (x .0)) st)
   keep (absent k r) o x st = keep r o x (add o (absentCells k) st)
-  keep (array z t i r) o x st = keep r o (x .1) (foldMaybe (keeps z) (keep i t) (x .0) (add o (itemsCell (Value Span i) (keeps z) (x .0) ∷ []) st))
+  keep (array z t i r) o x st = keep r o (x .1) (fold (keep i t) (listOf (keeps z) (x .0)) (add o (itemsCell (Value Span i) (keeps z) (x .0) ∷ []) st))
   keep (lacking z t i r) o x st = keep r o x (add o (absentCount z ∷ []) st)
 
 maps-loop : {A S : Type 0} (r : Reader A) (rs : S → Reader S) (g : A → S → S) → ((st : S) → Maps (rs st) r (λ x. g x st)) →
@@ -56,16 +52,16 @@ module _ {A B S : Type 0} (ri : Reader A) (rsi : S → Reader S) (gi : A → S �
     (rr : Reader B) (rsr : S → Reader S) (gr : B → S → S) (hr : (st : S) → Maps (rsr st) rr (λ y. gr y st))
     (cell : ℕ → S → S) (st : S) where
   abbrev total : (b : Bool) → Maybe b (List A) × B → S
-  total b z = gr (z .1) (foldMaybe b gi (z .0) (cell (itemsCell A b (z .0)) st))
+  total b z = gr (z .1) (fold gi (listOf b (z .0)) (cell (itemsCell A b (z .0)) st))
 
-  behind : (b : Bool) (n : ℕ) (x : Maybe b (List A)) → itemsCell A b x ≡ n → Maps (rsr (foldMaybe b gi x (cell n st))) (then rr (λ y. give (x, y))) (total b)
+  behind : (b : Bool) (n : ℕ) (x : Maybe b (List A)) → itemsCell A b x ≡ n → Maps (rsr (fold gi (listOf b x) (cell n st))) (then rr (λ y. give (x, y))) (total b)
   behind b n x q =
-      maps-last _ rr _ (total b) (subst (λ (m : ℕ). Maps (rsr (foldMaybe b gi x (cell m st))) rr (λ y. gr y (foldMaybe b gi x (cell (itemsCell A b x) st)))) q (hr _))
+      maps-last _ rr _ (total b) (subst (λ (m : ℕ). Maps (rsr (fold gi (listOf b x) (cell m st))) rr (λ y. gr y (fold gi (listOf b x) (cell (itemsCell A b x) st)))) q (hr _))
 
   array-null : (n : ℕ) → n ≡ 0 → Maps (then (loop (n - 1) rsi (cell (countCell true n) st)) rsr) (then (give none) (λ x. then rr (λ y. give (x, y)))) (total true)
   unfolding loop countCell
   array-null n z = subst (λ (m : ℕ). Maps (then (loop (m - 1) rsi (cell (countCell true m) st)) rsr) (then (give none) (λ x. then rr (λ y. give (x, y)))) (total true)) (sym z)
-      (maps-then _ _ _ _ _ _ (λ x. itemsCell A true x ≡ minus) (maps-give (λ x. foldMaybe true gi x (cell minus st)) none) (λ p s x k e. let q : none ≡ x = (unfold give in cc) in ap (itemsCell A true) (sym q)) (λ x q. behind true minus x q))
+      (maps-then _ _ _ _ _ _ (λ x. itemsCell A true x ≡ minus) (maps-give (λ x. fold gi (listOf true x) (cell minus st)) none) (λ p s x k e. let q : none ≡ x = (unfold give in cc) in ap (itemsCell A true) (sym q)) (λ x q. behind true minus x q))
 
   given-some : (n : ℕ) → eqb n 0 ≡ false → (p : ℕ) (s : List ℕ) (x : Option (List A)) (k : ℕ) → then (many (n - 1) ri) (λ x. give (some x)) p s ≡ ok x k → itemsCell A true x ≡ countCell true n
   unfolding give
@@ -76,7 +72,7 @@ module _ {A B S : Type 0} (ri : Reader A) (rsi : S → Reader S) (gi : A → S �
       ap (itemsCell A true) (sym q) ∙ cell-some n (length (a .x)) z (length-many ri (n - 1) p s (a .x) (a .n) (a .first))
 
   array-some : (n : ℕ) → eqb n 0 ≡ false → Maps (then (loop (n - 1) rsi (cell (countCell true n) st)) rsr) (then (then (many (n - 1) ri) (λ x. give (some x))) (λ x. then rr (λ y. give (x, y)))) (total true)
-  array-some n z = maps-then _ _ _ _ _ _ (λ x. itemsCell A true x ≡ countCell true n) (maps-last _ _ _ (λ x. foldMaybe true gi x (cell (countCell true n) st)) (maps-loop ri rsi gi hi (n - 1) (cell (countCell true n) st)))
+  array-some n z = maps-then _ _ _ _ _ _ (λ x. itemsCell A true x ≡ countCell true n) (maps-last _ _ _ (λ x. fold gi (listOf true x) (cell (countCell true n) st)) (maps-loop ri rsi gi hi (n - 1) (cell (countCell true n) st)))
       (λ p s x k e. given-some n z p s x k e) (λ x q. behind true (countCell true n) x q)
 
   array-plain : (n : ℕ) → Maps (then (loop (n - 1) rsi (cell (countCell false n) st)) rsr) (then (many (n - 1) ri) (λ x. then rr (λ y. give (x, y)))) (total false)

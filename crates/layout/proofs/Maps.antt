@@ -103,10 +103,3 @@ maps-many rs r g h (suc n) = maps-next _ _ g _ _ _ h (λ x. maps-next _ _ (map g
 pub maps-pair : {A B S U : Type 0} (rs : Reader S) (r : Reader A) (g : A → S) (qs : Reader U) (q : Reader B) (h : B → U) → Maps rs r g → Maps qs q h → Maps (pair rs qs) (pair r q) (λ z. (g (z .0), h (z .1)))
 unfolding pair
 maps-pair rs r g qs q h a b = maps-next _ _ g _ _ _ a (λ x. maps-next _ _ h _ _ _ b (λ y. maps-give _ (x, y)))
-
-pub maps-is : {A S : Type 0} (rs : Reader S) (r : Reader A) (g h : A → S) → ((x : A) → g x ≡ h x) → Maps rs r g → Maps rs r h
-maps-is {A} {S} rs r g h e a = record { law = λ p s. a .law p s ∙ go (r p s) }
-  where
-    go : (o : Res A) → over g o ≡ over h o
-    go (ok x n) = ap (λ (y : S). ok y n) (e x)
-    go (bad w) = refl

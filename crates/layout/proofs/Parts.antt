@@ -16,7 +16,7 @@ use Rattle.layout.specs.Rows.{Basic, BasicValue, Shape, Value, absent, a
 use Rattle.layout.specs.Read.{byBytes, byPlace, read, readBasic, readBlob, readText}
 use Rattle.layout.specs.Tables.{Span, slice}
 use Rattle.layout.proofs.Tests.{of-lt}
-use Rattle.layout.proofs.Codecs.{Text, by-bytes, by-place, byBoth, bytesOf, mapBasic, mapList, mapMaybe, mapValue, placeOf}
+use Rattle.layout.proofs.Codecs.{Text, by-bytes, by-place, byBoth, bytesOf, mapBasic, mapMaybe, mapValue, placeOf}
 use Rattle.layout.proofs.Every.{All, Every, EveryBasic, EveryMaybe, Few}
 use Rattle.layout.proofs.Gives.{Gives, Ground, gives-give, gives-local, gives-many, gives-pair, gives-part, gives-primitive, gives-sized}
 use Rattle.layout.proofs.Kept.{kept-cell, kept-length}
@@ -207,66 +207,58 @@ module _ (msg : List ℕ) where
 
 -- ---- from the two together to places, and from places to bytes
 
-module _ {X Y : Type 0} (K : ℕ) (g : X → Y) (P : X → Type 0) (Q : Y → Type 0) (h : (x : X) → P x → Q (g x)) where
-  every-maybe : (b : Bool) (x : Maybe b X) → EveryMaybe P b x → EveryMaybe Q b (mapMaybe g b x)
-  every-maybe true none e = tt
-  every-maybe true (some x) e = h x e
-  every-maybe false x e = h x e
+every-maybe : {X Y : Type 0} (g : X → Y) (P : X → Type 0) (Q : Y → Type 0) → ((x : X) → P x → Q (g x)) → (b : Bool) (x : Maybe b X) → EveryMaybe P b x → EveryMaybe Q b (mapMaybe g b x)
+every-maybe g P Q h true none e = tt
+every-maybe g P Q h true (some x) e = h x e
+every-maybe g P Q h false x e = h x e
 
+every-items : {A B : Type 0} (f : A → B) (R : A → Type 0) (S : B → Type 0) → ((x : A) → R x → S (f x)) → (xs : List A) → All R xs → All S (map f xs)
+every-items f R S k [] e = tt
+every-items f R S k (x ∷ xs) e = (k x (e .0), every-items f R S k xs (e .1))
+
+module _ {X Y : Type 0} (K : ℕ) (g : X → Y) (P : X → Type 0) (Q : Y → Type 0) (h : (x : X) → P x → Q (g x)) where
   every-basic : (k : Basic) (x : BasicValue X k) → EveryBasic K P k x → EveryBasic K Q k (mapBasic g k x)
   every-basic (number w) x e = tt
   every-basic boolean x e = tt
   every-basic level x e = tt
   every-basic natural x e = tt
-  every-basic (text z) x e = every-maybe (keeps z) x e
-  every-basic (blob z) x e = every-maybe (keeps z) x e
+  every-basic (text z) x e = every-maybe g P Q h (keeps z) x e
+  every-basic (blob z) x e = every-maybe g P Q h (keeps z) x e
   every-basic (optional d k) x e = every-basic k x e
-
-  every-items : {A B : Type 0} (f : A → B) (R : A → Type 0) (S : B → Type 0) → ((x : A) → R x → S (f x)) → (xs : List A) → All R xs → All S (map f xs)
-  every-items f R S k [] e = tt
-  every-items f R S k (x ∷ xs) e = (k x (e .0), every-items f R S k xs (e .1))
-
-  every-list : {A B : Type 0} (f : A → B) (R : A → Type 0) (S : B → Type 0) → ((x : A) → R x → S (f x)) → (b : Bool) (xs : Maybe b (List A)) → EveryMaybe (λ xs. Few K R xs) b xs → EveryMaybe (λ xs. Few K S xs) b (mapList b f xs)
-  every-list f R S k true none e = tt
-  every-list f R S k true (some xs) e = (subst (λ (n : ℕ). n < K) (sym (length-map xs f)) (e .0), every-items f R S k xs (e .1))
-  every-list f R S k false xs e = (subst (λ (n : ℕ). n < K) (sym (length-map xs f)) (e .0), every-items f R S k xs (e .1))
 
   pub every-map : (l : Shape) (x : Value X l) → Every K P l x → Every K Q l (mapValue g l x)
   every-map end x e = tt
   every-map (field k r) x e = (every-basic k (x .0) (e .0), every-map r (x .1) (e .1))
   every-map (absent k r) x e = every-map r x e
-  every-map (array z t i r) x e = (every-list (mapValue g i) (Every K P i) (Every K Q i) (every-map i) (keeps z) (x .0) (e .0), every-map r (x .1) (e .1))
+  every-map (array z t i r) x e =
+      (every-maybe (map (mapValue g i)) (Few K (Every K P i)) (Few K (Every K Q i)) (λ xs p. (rw length-map (p .0), every-items (mapValue g i) (Every K P i) (Every K Q i) (every-map i) xs (p .1))) (keeps z) (x .0) (e .0), every-map r (x .1) (e .1))
   every-map (lacking z t i r) x e = every-map r x e
 
-module _ {X Y Z : Type 0} (K : ℕ) (f : X → Y) (g : Y → Z) (h : X → Z) (P : X → Type 0) (e : (x : X) → P x → g (f x) ≡ h x) where
-  same-maybe : (b : Bool) (x : Maybe b X) → EveryMaybe P b x → mapMaybe g b (mapMaybe f b x) ≡ mapMaybe h b x
-  same-maybe true none p = refl
-  same-maybe true (some x) p = ap some (e x p)
-  same-maybe false x p = e x p
+same-maybe : {X Y Z : Type 0} (f : X → Y) (g : Y → Z) (h : X → Z) (P : X → Type 0) → ((x : X) → P x → g (f x) ≡ h x) → (b : Bool) (x : Maybe b X) → EveryMaybe P b x → mapMaybe g b (mapMaybe f b x) ≡ mapMaybe h b x
+same-maybe f g h P e true none p = refl
+same-maybe f g h P e true (some x) p = ap some (e x p)
+same-maybe f g h P e false x p = e x p
 
+same-items : {A B C : Type 0} (u : A → B) (v : B → C) (w : A → C) (R : A → Type 0) → ((x : A) → R x → v (u x) ≡ w x) → (xs : List A) → All R xs → map v (map u xs) ≡ map w xs
+same-items u v w R k [] p = refl
+same-items u v w R k (x ∷ xs) p = λ i. k x (p .0) i ∷ same-items u v w R k xs (p .1) i
+
+module _ {X Y Z : Type 0} (K : ℕ) (f : X → Y) (g : Y → Z) (h : X → Z) (P : X → Type 0) (e : (x : X) → P x → g (f x) ≡ h x) where
   same-basic : (k : Basic) (x : BasicValue X k) → EveryBasic K P k x → mapBasic g k (mapBasic f k x) ≡ mapBasic h k x
   same-basic (number w) x p = refl
   same-basic boolean x p = refl
   same-basic level x p = refl
   same-basic natural x p = refl
-  same-basic (text z) x p = same-maybe (keeps z) x p
-  same-basic (blob z) x p = same-maybe (keeps z) x p
+  same-basic (text z) x p = same-maybe f g h P e (keeps z) x p
+  same-basic (blob z) x p = same-maybe f g h P e (keeps z) x p
   same-basic (optional d k) x p = same-basic k x p
-
-  same-items : {A B C : Type 0} (u : A → B) (v : B → C) (w : A → C) (R : A → Type 0) → ((x : A) → R x → v (u x) ≡ w x) → (xs : List A) → All R xs → map v (map u xs) ≡ map w xs
-  same-items u v w R k [] p = refl
-  same-items u v w R k (x ∷ xs) p = λ i. k x (p .0) i ∷ same-items u v w R k xs (p .1) i
-
-  same-list : {A B C : Type 0} (u : A → B) (v : B → C) (w : A → C) (R : A → Type 0) → ((x : A) → R x → v (u x) ≡ w x) → (b : Bool) (xs : Maybe b (List A)) → EveryMaybe (λ xs. Few K R xs) b xs → mapList b v (mapList b u xs) ≡ mapList b w xs
-  same-list u v w R k true none p = refl
-  same-list u v w R k true (some xs) p = ap some (same-items u v w R k xs (p .1))
-  same-list u v w R k false xs p = same-items u v w R k xs (p .1)
 
   pub same-map : (l : Shape) (x : Value X l) → Every K P l x → mapValue g l (mapValue f l x) ≡ mapValue h l x
   same-map end x p = refl
   same-map (field k r) x p = λ i. (same-basic k (x .0) (p .0) i, same-map r (x .1) (p .1) i)
   same-map (absent k r) x p = same-map r x p
-  same-map (array z t j r) x p = λ i. (same-list (mapValue f j) (mapValue g j) (mapValue h j) (Every K P j) (same-map j) (keeps z) (x .0) (p .0) i, same-map r (x .1) (p .1) i)
+  same-map (array z t j r) x p =
+      λ i. (same-maybe (map (mapValue f j)) (map (mapValue g j)) (map (mapValue h j)) (Few K (Every K P j)) (λ xs q. same-items _ _ _ (Every K P j) (same-map j) xs (q .1)) (keeps z) (x .0) (p .0) i, same-map r (x .1) (p .1) i)
   same-map (lacking z t j r) x p = same-map r x p
 
 -- ---- the theorem

@@ -1,15 +1,14 @@
 -- The rows that a read lays behind one another are the rows that a write takes from the front: for every shape.
-use mathlib.Core.Bool.{Bool, false, true}
 use mathlib.Core.List.{List, [], _++_, _∷_, append-assoc, append-nil}
-use mathlib.Core.Option.{none, some}
 use mathlib.Core.Path.{_∙_, _≡_, ap, refl, sym}
 use Prim.Native.Nat.{suc, zero, ℕ}
 use native.Mathlib.Nat.{suc-inj, suc-ne-zero}
 use lib.ListN.{getD, length, length-replicate, length-set, replicate, set}
-use Rattle.layout.specs.Primitives.{Maybe, keeps}
+use Rattle.layout.specs.Primitives.{keeps}
 use Rattle.layout.specs.Rows.{Shape, Value, absent, array, end, field, lacking}
 use Rattle.layout.specs.Tables.{Span, Tables, absentCells, absentCount, append, cells}
-use Rattle.layout.proofs.Link.{fold, foldMaybe, itemsCell, keep}
+use Rattle.layout.proofs.Every.{listOf}
+use Rattle.layout.proofs.Link.{fold, itemsCell, keep}
 
 -- ---- the rows of a value, in front of what the tables hold
 
@@ -20,16 +19,11 @@ abbrev pub layAll : {A : Type 0} → (A → Tables → Tables) → List A → Ta
 layAll g [] st = st
 layAll g (x ∷ xs) st = g x (layAll g xs st)
 
-abbrev pub layMaybe : (A : Type 0) (b : Bool) → (A → Tables → Tables) → Maybe b (List A) → Tables → Tables
-layMaybe A true g none st = st
-layMaybe A true g (some xs) st = layAll g xs st
-layMaybe A false g xs st = layAll g xs st
-
 unfoldable pub lay : (l : Shape) → ℕ → Value Span l → Tables → Tables
 lay end o x st = st
 lay (field k r) o x st = push o (cells k (x .0)) (lay r o (x .1) st)
 lay (absent k r) o x st = push o (absentCells k) (lay r o x st)
-lay (array z t i r) o x st = push o (itemsCell (Value Span i) (keeps z) (x .0) ∷ []) (layMaybe (Value Span i) (keeps z) (lay i t) (x .0) (lay r o (x .1) st))
+lay (array z t i r) o x st = push o (itemsCell (Value Span i) (keeps z) (x .0) ∷ []) (layAll (lay i t) (listOf (keeps z) (x .0)) (lay r o (x .1) st))
 lay (lacking z t i r) o x st = push o (absentCount z ∷ []) (lay r o x st)
 
 -- ---- two rows of tables, one behind the other
@@ -79,18 +73,13 @@ module _ (N : ℕ) where
   moves-all f g h [] = moves-none N
   moves-all f g h (x ∷ xs) = moves-then N _ _ _ _ (h x) (moves-all f g h xs)
 
-  moves-maybe : (A : Type 0) (b : Bool) (f g : A → Tables → Tables) → ((x : A) → Moves N (f x) (g x)) → (xs : Maybe b (List A)) → Moves N (foldMaybe b f xs) (layMaybe A b g xs)
-  moves-maybe A true f g h none = moves-none N
-  moves-maybe A true f g h (some xs) = moves-all f g h xs
-  moves-maybe A false f g h xs = moves-all f g h xs
-
   pub moves : (l : Shape) (o : ℕ) (x : Value Span l) → Moves N (keep append l o x) (lay l o x)
   unfolding keep lay
   moves end o x = moves-none N
   moves (field k r) o x = moves-then N _ _ _ _ (moves-append N o (cells k (x .0))) (moves r o (x .1))
   moves (absent k r) o x = moves-then N _ _ _ _ (moves-append N o (absentCells k)) (moves r o x)
   moves (array z t i r) o x =
-      moves-then N _ _ _ _ (moves-then N _ _ _ _ (moves-append N o (itemsCell (Value Span i) (keeps z) (x .0) ∷ [])) (moves-maybe (Value Span i) (keeps z) _ _ (moves i t) (x .0))) (moves r o (x .1))
+      moves-then N _ _ _ _ (moves-then N _ _ _ _ (moves-append N o (itemsCell (Value Span i) (keeps z) (x .0) ∷ [])) (moves-all _ _ (moves i t) (listOf (keeps z) (x .0)))) (moves r o (x .1))
   moves (lacking z t i r) o x = moves-then N _ _ _ _ (moves-append N o (absentCount z ∷ [])) (moves r o x)
 
   join-left : (n : ℕ) (su : Tables) → length su ≡ n → join (replicate n []) su ≡ su

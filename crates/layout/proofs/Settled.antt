@@ -1,10 +1,10 @@
 -- What is written comes back settled: what the version lacks absent, what was unset at its default, all else as it was lent. For every shape.
 use mathlib.Core.Bool.{Bool, cond, false, true}
-use mathlib.Core.List.{List, [], _∷_, map}
+use mathlib.Core.List.{List, [], _∷_, map, map-map}
 use mathlib.Core.Option.{none, some}
 use mathlib.Core.Path.{_∙_, _≡_, ap, refl, subst, sym}
 use Prim.Native.Nat.{_+_, _<_, _≤_, suc, zero, ℕ}
-use lib.Dec.{eqb, eqb·suc-zero}
+use lib.Dec.{eqb, eqb·suc-zero, lit<}
 use lib.ListN.{drop, getD, length, length-map, length-replicate, replicate}
 use Rattle.layout.specs.Reading.{Res, bad, ok}
 use Rattle.layout.specs.Primitives.{Maybe, Size, compact, empty, fixed, keeps, kept, minus, never, plain}
@@ -13,15 +13,15 @@ use Rattle.layout.specs.Read.{byPlace, read}
 use Rattle.layout.specs.Tables.{Span, Tables, absentCells, absentCount, append, basicOf, cells, chosen, count, itemsOf, pop, readRows, slice, span, spanOf, times, valueOf, width}
 use Rattle.layout.specs.Answers.{meant}
 use Rattle.layout.specs.Settled.{Shown, gone, goneCount, num, part, settledCells, settledCount, settledSpan, shownCells, shownSpan}
-use Rattle.layout.proofs.Codecs.{mapBasic, mapList, mapMaybe, mapValue}
-use Rattle.layout.proofs.Decode.{Takes, absent-width, cells-width, count-is, pop-push, takes, takes-all}
-use Rattle.layout.proofs.Every.{Every, EveryMaybe, Few, Within}
+use Rattle.layout.proofs.Codecs.{list-map, mapBasic, mapMaybe, mapValue}
+use Rattle.layout.proofs.Decode.{Takes, absent-width, cells-width, count-list, takes, takes-all, takes-field, takes-map, takes-none, takes-push, takes-then}
+use Rattle.layout.proofs.Every.{Every, EveryMaybe, Few, Within, few-list, listOf}
 use Rattle.layout.proofs.Link.{itemsCell, keep, link}
 use Rattle.layout.proofs.Local.{not-ok}
 use Rattle.layout.proofs.Maps.{over}
 use Rattle.layout.proofs.Parts.{Eating}
 use Rattle.layout.proofs.Parts as Parts
-use Rattle.layout.proofs.Same.{lay, layMaybe, length-push, same-tables}
+use Rattle.layout.proofs.Same.{lay, layAll, same-tables}
 use Rattle.layout.proofs.Tests.{of-eq}
 use Rattle.layout.proofs.Trip.{Laid}
 
@@ -84,16 +84,11 @@ ofBasic (text z) x = ofSpan (keeps z) x
 ofBasic (blob z) x = ofSpan (keeps z) x
 ofBasic (optional d k) x = num 2 ∷ ofBasic k x
 
-abbrev pub ofItems : {A B : Type 0} (b : Bool) → (A → B) → Maybe b (List A) → List B
-ofItems true f none = []
-ofItems true f (some xs) = map f xs
-ofItems false f xs = map f xs
-
 abbrev pub ofValue : (l : Shape) → Value (List ℕ) l → Held l
 ofValue end x = tt
 ofValue (field k r) x = (ofBasic k (x .0), ofValue r (x .1))
 ofValue (absent k r) x = (gone k, ofValue r x)
-ofValue (array z t i r) x = ((itemsCell (Value (List ℕ) i) (keeps z) (x .0), ofItems (keeps z) (ofValue i) (x .0)), ofValue r (x .1))
+ofValue (array z t i r) x = ((itemsCell (Value (List ℕ) i) (keeps z) (x .0), map (ofValue i) (listOf (keeps z) (x .0))), ofValue r (x .1))
 ofValue (lacking z t i r) x = (goneCount z, ofValue r x)
 
 -- ---- the tables that a read lays
@@ -150,67 +145,34 @@ shown-lacking (compact kept) = refl
 shown-lacking (compact empty) = refl
 shown-lacking plain = refl
 
-pub map-cell : {A B : Type 0} (t : Bool) (f : A → B) (xs : Maybe t (List A)) → itemsCell A t xs ≡ itemsCell B t (mapList t f xs)
+pub map-cell : {A B : Type 0} (t : Bool) (f : A → B) (xs : Maybe t (List A)) → itemsCell A t xs ≡ itemsCell B t (mapMaybe (map f) t xs)
 map-cell true f none = refl
 map-cell true f (some xs) = sym (length-map xs f)
 map-cell false f xs = sym (length-map xs f)
 
-map-twice : {A B C : Type 0} (f : A → B) (g : B → C) (xs : List A) → map (λ x. g (f x)) xs ≡ map g (map f xs)
-map-twice f g [] = refl
-map-twice f g (x ∷ xs) = ap (λ (ys : List _). g (f x) ∷ ys) (map-twice f g xs)
-
-map-items : {A B C : Type 0} (t : Bool) (f : A → B) (g : B → C) (xs : Maybe t (List A)) → ofItems t (λ x. g (f x)) xs ≡ ofItems t g (mapList t f xs)
-map-items true f g none = refl
-map-items true f g (some xs) = map-twice f g xs
-map-items false f g xs = map-twice f g xs
-
 module _ (b : List ℕ) (N : ℕ) (P : Span → Type 0) where
   holds-items : {A B : Type 0} (t : Bool) (d : Tables → B × Tables) (g : A → Tables → Tables) (f : A → B) (Q : A → Type 0) → ((x : A) → Q x → Takes N d (g x) (f x)) →
-      (xs : Maybe t (List A)) → EveryMaybe (λ xs. Few minus Q xs) t xs → Takes N (times (count (itemsCell A t xs)) d) (layMaybe A t g xs) (ofItems t f xs)
-  holds-items true d g f Q h none p = record { law = λ st e. (unfold count times in refl); stays = λ st e. e }
-  holds-items true d g f Q h (some xs) p =
-      let a = takes-all b N P d g f Q h xs (p .1) in
-      record { law = λ st e. rw (count-is (length xs) (p .0)) (a .law st e); stays = a .stays }
-  holds-items false d g f Q h xs p =
-      let a = takes-all b N P d g f Q h xs (p .1) in
-      record { law = λ st e. rw (count-is (length xs) (p .0)) (a .law st e); stays = a .stays }
+      (xs : Maybe t (List A)) → EveryMaybe (Few minus Q) t xs → Takes N (times (count (itemsCell A t xs)) d) (layAll g (listOf t xs)) (map f (listOf t xs))
+  holds-items t d g f Q h xs p =
+      let k = few-list minus Q t xs (lit< tt) p in
+      rw (count-list _ t xs (k .0)) (takes-all b N P d g f Q h (listOf t xs) (k .1))
 
   -- the rows of a value that was read hold that value, and nothing else is left
   pub holds : (l : Shape) (o : ℕ) (x : Value Span l) → o < N → Within N l → Every minus P l x → Takes N (told (asIs b) l o) (lay l o x) (ofValue l (mapValue (slice b) l x))
   unfolding told lay
-  holds end o x h w v = record { law = λ st e. refl; stays = λ st e. e }
+  holds end o x h w v = takes-none tt
   holds (field k r) o x h w v =
-      let a = holds r o (x .1) h w (v .1) in
-      record {
-        law = λ st e.
-            let n = a .stays st e in
-            rw (pop-push o (width k) (cells k (x .0)) (lay r o (x .1) st) (subst (λ (m : ℕ). o < m) (sym n) h) (cells-width k (x .0)), shown-basic b k (x .0), a .law st e);
-        stays = λ st e. length-push o _ _ ∙ a .stays st e;
-      }
+      rw (← shown-basic b k (x .0)) (takes-field o (width k) (cells k (x .0)) (shownCells b k) _ _ _ h (cells-width k (x .0)) (holds r o (x .1) h w (v .1)))
   holds (absent k r) o x h w v =
-      let a = holds r o x h w v in
-      record {
-        law = λ st e. let n = a .stays st e in rw (pop-push o (width k) (absentCells k) (lay r o x st) (subst (λ (m : ℕ). o < m) (sym n) h) (absent-width k), shown-absent b k, a .law st e);
-        stays = λ st e. length-push o _ _ ∙ a .stays st e;
-      }
+      rw (← shown-absent b k) (takes-field o (width k) (absentCells k) (shownCells b k) _ _ _ h (absent-width k) (holds r o x h w v))
   holds (array z t i r) o x h w v =
-      let a = holds r o (x .1) h (w .2) (v .1) in
-      let c = holds-items (keeps z) (told (asIs b) i t) (lay i t) (λ y. ofValue i (mapValue (slice b) i y)) (Every minus P i) (λ y p. holds i t y (w .0) (w .1) p) (x .0) (v .0) in
-      record {
-        law = λ st e.
-            let n = a .stays st e in
-            let k = c .stays (lay r o (x .1) st) n in
-            let p = pop-push o 1 (itemsCell (Value Span i) (keeps z) (x .0) ∷ []) (layMaybe (Value Span i) (keeps z) (lay i t) (x .0) (lay r o (x .1) st)) (subst (λ (m : ℕ). o < m) (sym k) h) refl in
-            rw (p, c .law (lay r o (x .1) st) n, a .law st e)
-            (λ j. (((map-cell (keeps z) (mapValue (slice b) i) (x .0) j, map-items (keeps z) (mapValue (slice b) i) (ofValue i) (x .0) j), ofValue r (mapValue (slice b) r (x .1))), st));
-        stays = λ st e. length-push o _ _ ∙ c .stays (lay r o (x .1) st) (a .stays st e);
-      }
+      let c = itemsCell (Value Span i) (keeps z) (x .0) in
+      let items : List ℕ → Tables → List (Held i) × Tables = λ cs. times (count (getD cs 0 0)) (told (asIs b) i t) in
+      rw (← map-cell (keeps z) (mapValue (slice b) i) (x .0), list-map (mapValue (slice b) i) (keeps z) (x .0), map-map (ofValue i) (mapValue (slice b) i) (listOf (keeps z) (x .0)))
+      (takes-push o 1 (c ∷ []) (λ cs st. (((getD cs 0 0, items cs st .0), told (asIs b) r o (items cs st .1) .0), told (asIs b) r o (items cs st .1) .1)) _ _ h refl
+      (takes-then _ _ _ _ _ _ (takes-map (λ xs. (c, xs)) _ _ _ (holds-items (keeps z) (told (asIs b) i t) (lay i t) _ (Every minus P i) (λ y p. holds i t y (w .0) (w .1) p) (x .0) (v .0))) (holds r o (x .1) h (w .2) (v .1))))
   holds (lacking z t i r) o x h w v =
-      let a = holds r o x h w v in
-      record {
-        law = λ st e. let n = a .stays st e in rw (pop-push o 1 (absentCount z ∷ []) (lay r o x st) (subst (λ (m : ℕ). o < m) (sym n) h) refl, shown-lacking z, a .law st e);
-        stays = λ st e. length-push o _ _ ∙ a .stays st e;
-      }
+      rw (← shown-lacking z) (takes-field o 1 (absentCount z ∷ []) (λ cs. getD cs 0 0) _ _ _ h refl (holds r o x h w v))
 
 -- ---- the tables that are lent to a writer, settled
 
@@ -265,12 +227,12 @@ none-of g d st = refl
 
 tells-items : {A B : Type 0} (z : Size) (t : Bool) (c : ℕ) (f : Tables → B × Tables) (d : Tables → A × Tables) (g : A → B) → Tells f d g → keeps z ≡ t → (st : Tables) →
     _≡_ {A = (ℕ × List B) × Tables} ((settledCount z c, times (count c) f st .0), times (count c) f st .1)
-    ((itemsCell A t (itemsOf t c d st .0), ofItems t g (itemsOf t c d st .0)), itemsOf t c d st .1)
+    ((itemsCell A t (itemsOf t c d st .0), map g (listOf t (itemsOf t c d st .0))), itemsOf t c d st .1)
 unfolding itemsOf settledCount
 tells-items {A} {B} z true c f d g h k st = rw (k, tells-times f d g h (count c) .law st) (go (eqb c minus) refl (count c) (of-count c))
   where
     go : (e : Bool) → eqb c minus ≡ e → (n : ℕ) → n ≡ cond e 0 c → _≡_ {A = (ℕ × List B) × Tables} ((c, map g (times n d st .0)), times n d st .1)
-        ((itemsCell A true (cond e none (some (times n d st .0))), ofItems true g (cond e none (some (times n d st .0)))), times n d st .1)
+        ((itemsCell A true (cond e none (some (times n d st .0))), map g (listOf true (cond e none (some (times n d st .0))))), times n d st .1)
     go true e n q = λ i. ((of-eq c minus e i, (ap (λ (m : ℕ). map g (times m d st .0)) q ∙ none-of g d st) i), times n d st .1)
     go false e n q = λ i. ((sym (length-times d n st ∙ q) i, map g (times n d st .0)), times n d st .1)
 tells-items {A} {B} z false c f d g h k st =

@@ -1,7 +1,6 @@
 -- The rows of the tables, each by itself: what is told of tables as a whole is told of their rows one by one. For every shape.
 use mathlib.Core.Bool.{Bool, cond, false, true}
-use mathlib.Core.List.{List, [], _++_, _∷_, map, map-append}
-use mathlib.Core.Option.{none, some}
+use mathlib.Core.List.{List, [], _++_, _∷_, map, map-append, map-map}
 use mathlib.Core.Path.{_∙_, _≡_, ap, refl, subst, sym}
 use Prim.Native.Nat.{_+_, _-_, _<_, _≤_, suc, zero, ℕ}
 use native.Mathlib.Omega.{arith}
@@ -15,17 +14,17 @@ use Rattle.layout.specs.Rows.{Shape, Value, absent, array, end, field, l
 use Rattle.layout.specs.Tables.{Span, Tables, absentCells, append, cells, chunks, count, kindOf, pop, rowWidth, rowsOf, slice, times, width}
 use Rattle.layout.specs.Answers.{meant}
 use Rattle.layout.specs.Settled.{Shown, gone, goneCount, num, settledCells, settledCount, settledRow, shownCells, shownRow}
-use Rattle.layout.proofs.Codecs.{mapList, mapValue}
-use Rattle.layout.proofs.Contents.{Free, Holds, Tree, flatten, flattenMaybe, rowCells, rows-back, rows-wide, rowsIn, tables-hold}
+use Rattle.layout.proofs.Codecs.{list-map, mapMaybe, mapValue}
+use Rattle.layout.proofs.Contents.{Free, Holds, Tree, flatten, rowCells, rows-back, rows-wide, rowsIn, tables-hold}
 use Rattle.layout.proofs.Decode.{absent-width, cells-width}
-use Rattle.layout.proofs.Every.{Within}
+use Rattle.layout.proofs.Every.{Within, listOf}
 use Rattle.layout.proofs.Good.{Kinds, kinds-wide}
 use Rattle.layout.proofs.Link.{keep, link}
 use Rattle.layout.proofs.Maps.{over}
 use Rattle.layout.proofs.Parts.{Eating}
 use Rattle.layout.proofs.Parts as Parts
 use Rattle.layout.proofs.Same.{same-tables}
-use Rattle.layout.proofs.Settled.{Held, Telling, asBack, asIs, comes-settled, holds, map-cell, ofItems, ofValue, shown-absent, shown-basic, shown-lacking, settled, shown, told}
+use Rattle.layout.proofs.Settled.{Held, Telling, asBack, asIs, comes-settled, holds, map-cell, ofValue, shown-absent, shown-basic, shown-lacking, settled, shown, told}
 use Rattle.layout.proofs.Tests.{of-eq, of-ne}
 use Rattle.layout.proofs.Trip.{Laid}
 
@@ -262,15 +261,8 @@ flatten-map : {A B C : Type 0} (p : A → B) (g : B → List C) (q : A → List 
 flatten-map p g q e [] = refl
 flatten-map p g q e (x ∷ xs) = λ i. e x i ++ flatten-map p g q e xs i
 
-flatten-items : {A B C D : Type 0} (t : Bool) (m : A → B) (p : B → C) (g : C → List D) (q : A → List D) → ((x : A) → g (p (m x)) ≡ q x) → (xs : Maybe t (List A)) → flatten g (ofItems t p (mapList t m xs)) ≡ flattenMaybe t q xs
-flatten-items true m p g q e none = refl
-flatten-items true m p g q e (some xs) = flatten-map p g (λ y. g (p y)) (λ y. refl) (map m xs) ∙ flatten-map m (λ y. g (p y)) q e xs
-flatten-items false m p g q e xs = flatten-map p g (λ y. g (p y)) (λ y. refl) (map m xs) ∙ flatten-map m (λ y. g (p y)) q e xs
-
-map-flatten-maybe : {A B C : Type 0} (t : Bool) (f : B → C) (g : A → List B) (xs : Maybe t (List A)) → map f (flattenMaybe t g xs) ≡ flattenMaybe t (λ x. map f (g x)) xs
-map-flatten-maybe true f g none = refl
-map-flatten-maybe true f g (some xs) = map-flatten f g xs
-map-flatten-maybe false f g xs = map-flatten f g xs
+flatten-items : {A B C D : Type 0} (t : Bool) (m : A → B) (p : B → C) (g : C → List D) (q : A → List D) → ((x : A) → g (p (m x)) ≡ q x) → (xs : Maybe t (List A)) → flatten g (map p (listOf t (mapMaybe (map m) t xs))) ≡ flatten q (listOf t xs)
+flatten-items t m p g q e xs = rw (list-map m t xs, map-map p m (listOf t xs)) (flatten-map (λ x. p (m x)) g q e (listOf t xs))
 
 module _ (b : List ℕ) where
   own-of : (l : Shape) (x : Value Span l) → own l (ofValue l (mapValue (slice b) l x)) ≡ row (asIs b) l (rowCells l x)
@@ -296,8 +288,8 @@ module _ (b : List ℕ) where
     rows-of (array z u j r) x a =
         let g : Value Span j → List (List ℕ) = λ y. cond (eqb t u) (rowCells j y ∷ []) (rowsIn t j y) in
         let e = flatten-items (keeps z) (mapValue (slice b) j) (ofValue j) (λ y. cond (eqb t u) (own j y ∷ []) (rowsHeld t j y)) (λ y. map (row (asIs b) K) (g y)) (λ y. item y (rows-of j y (a .1)) (eqb t u) (a .0)) (x .0) in
-        (λ i. (e ∙ sym (map-flatten-maybe (keeps z) (row (asIs b) K) g (x .0))) i ++ rows-of r (x .1) (a .2) i)
-        ∙ sym (map-append (row (asIs b) K) (flattenMaybe (keeps z) g (x .0)) (rowsIn t r (x .1)))
+        (λ i. (e ∙ sym (map-flatten (row (asIs b) K) g (listOf (keeps z) (x .0)))) i ++ rows-of r (x .1) (a .2) i)
+        ∙ sym (map-append (row (asIs b) K) (flatten g (listOf (keeps z) (x .0))) (rowsIn t r (x .1)))
       where
         item : (y : Value Span j) → rowsHeld t j (ofValue j (mapValue (slice b) j y)) ≡ map (row (asIs b) K) (rowsIn t j y) → (c : Bool) → (c ≡ true → j ≡ K) →
             cond c (own j (ofValue j (mapValue (slice b) j y)) ∷ []) (rowsHeld t j (ofValue j (mapValue (slice b) j y))) ≡ map (row (asIs b) K) (cond c (rowCells j y ∷ []) (rowsIn t j y))
