@@ -1,20 +1,22 @@
 -- Every row comes back. The counts of the tables that were lent add up, and so do those of the tables that a read of the written bytes fills; a row that comes back asks for as many rows as
 -- the one that was lent. So table by table, each after those whose rows ask for its rows, as many rows come back as were lent, and all of them settled. For every shape.
 use mathlib.Core.Bool.{Bool, _&&_, cond, false, not, true}
-use mathlib.Core.List.{List, [], _++_, _∷_, map}
-use mathlib.Core.Path.{_∙_, _≡_, ap, refl, subst, sym}
+use mathlib.Core.List.{List, [], _∷_, map}
+use mathlib.Core.Path.{_∙_, _≡_, ap, refl, sym}
 use Prim.Native.Nat.{_+_, _/_, _<_, _≤_, suc, zero, ℕ}
 use native.Mathlib.Nat.{zero-add}
 use native.Mathlib.Omega.{arith}
 use lib.Dec.{eqb, ltb}
-use lib.ListN.{drop, getD, length, take}
+use lib.ListN.{drop, getD, length, replicate, take}
 use lib.Seq.{drop-at}
 use borrow.Author.Tests.{ne-eqb}
+use Rattle.layout.specs.Reading.{ok}
 use Rattle.layout.specs.Primitives.{Size, keeps, minus}
 use Rattle.layout.specs.Rows.{Basic, Shape, absent, array, blob, boolean, end, field, lacking, level, natural, number, optional, text}
-use Rattle.layout.specs.Tables.{Tables, addsUp, all, asked, chunks, count, from, good, goodRow, kindOf, rowWidth, rowsAt, rowsOf, sum, width}
+use Rattle.layout.specs.Tables.{Tables, addsUp, all, append, asked, chunks, count, from, good, goodRow, kindOf, readRows, rowWidth, rowsAt, rowsOf, sum, width}
 use Rattle.layout.specs.Answers.{Message, meant, most, shape}
 use Rattle.layout.specs.Settled.{Returned, Shown, gone, num, part, settledCells, settledCount, settledRow, settledSpan, shownCells, shownRow, shownSpan}
+use Rattle.layout.proofs.Chunks.{rows-many}
 use Rattle.layout.proofs.Contents.{Holds, free-rows, joined, tables-hold}
 use Rattle.layout.proofs.Every.{All}
 use Rattle.layout.proofs.Good.{Kinds, NoNull, Writable, read-good}
@@ -181,14 +183,9 @@ adds size n l st h t a b =
     let y = both (all (λ t. all (goodRow size (kindOf t l)) (rowsAt l st t)) (from 1 n)) (all (addsUp size n l st) (from 1 n)) (x .1) in
     of-eq _ _ (all-from (addsUp size n l st) 1 n t (y .1) a (omega arith))
 
-length-chunks : (n w : ℕ) (cs : List ℕ) → length (chunks n w cs) ≡ n
-unfolding chunks
-length-chunks zero w cs = refl
-length-chunks (suc n) w cs = ap suc (length-chunks n w (drop w cs))
-
 all-chunks : (w : ℕ) (cs : List ℕ) → chunks (length (rowsOf w cs)) w cs ≡ rowsOf w cs
 unfolding rowsOf
-all-chunks w cs = ap (λ (n : ℕ). chunks n w cs) (length-chunks (length cs / w) w cs)
+all-chunks w cs = ap (λ (n : ℕ). chunks n w cs) (rows-many w cs)
 
 -- ---- the tables su, read from bs, and the tables st that were lent with `lent`: as many rows as are read are the first that were lent
 
@@ -245,23 +242,21 @@ pub record Follows (m : Message) (F : ℕ → Bool) (v : ℕ) : Type 0 where
   pub judged : (size : ℕ) (st : Tables) → good size (m .tables) (shape m 0) st ≡ good size (m .tables) (shape m v) st
   pub test : followed F (m .tables) (shape m v) ≡ true
 
-module _ (m : Message) (h : proper m ≡ true) (F : ℕ → Bool) (v : ℕ) (known : v ≤ m .last) (o : Follows m F v) (w : Bool) (lent : List ℕ) (st : Tables) (bs : List ℕ) (n : ℕ)
-    (tables-lent : length st ≡ suc (m .tables)) (short : length bs ≤ most) (lent-good : good (length lent) (m .tables) (shape m 0) st ≡ true)
-    (d : Laid w (shape m v) (suc (m .tables)) bs (meant lent st (shape m v)) n) where
+apart : (t : ℕ) → 1 ≤ t → eqb t 0 ≡ false
+apart t a = ne-eqb t 0 (λ e. omega arith)
+
+module _ (m : Message) (h : proper m ≡ true) (F : ℕ → Bool) (v : ℕ) (known : v ≤ m .last) (o : Follows m F v) where
   abbrev l : Shape
   l = shape m v
 
-  owes : Owes (suc (m .tables)) (shape m v) (shape m v)
+  owes : Owes (suc (m .tables)) l l
   owes = owed m h v known
 
-  wide : (t : ℕ) → 1 ≤ t → t ≤ m .tables → 0 < rowWidth (kindOf t (shape m v))
+  wide : (t : ℕ) → 1 ≤ t → t ≤ m .tables → 0 < rowWidth (kindOf t l)
   unfolding widthAt
   wide t a b = width-same m h v known t a b .0
 
-  apart : (t : ℕ) → 1 ≤ t → eqb t 0 ≡ false
-  apart t a = ne-eqb t 0 (λ e. omega arith)
-
-  writable : Writable (m .tables) (shape m v)
+  writable : Writable (m .tables) l
   writable = record {
     within-it = owes .names;
     free = owes .free;
@@ -269,26 +264,33 @@ module _ (m : Message) (h : proper m ≡ true) (F : ℕ → Bool) (v : ℕ) (kno
     eats = owes .eating;
     no-null = o .no-null;
     kinds = o .kinds;
-    named = in-from 1 (m .tables) (λ t. (eqb t 0 ≡ false) × (0 < rowWidth (kindOf t (shape m v)))) (λ t a b. (apart t a, wide t a (omega arith)));
+    named = in-from 1 (m .tables) (λ t. (eqb t 0 ≡ false) × (0 < rowWidth (kindOf t l))) (λ t a b. (apart t a, wide t a (omega arith)));
   }
 
-  holds : Holds w (shape m v) bs n (d .st)
-  holds = tables-hold w (shape m v) (suc (m .tables)) bs (d .st) n (omega arith) (owes .names) (owes .free) (owes .tree) (d .reads)
+  module _ (w : Bool) (s : List ℕ) (st : Tables) (n : ℕ) (short : length s ≤ most) (d : readRows w append l 0 (replicate (suc (m .tables)) []) 0 s ≡ ok st n) where
+    holds : Holds w l s n st
+    holds = tables-hold w l (suc (m .tables)) s st n (omega arith) (owes .names) (owes .free) (owes .tree) d
 
-  own-back : shownRow bs (shape m v) (getD (d .st) 0 []) ≡ settledRow lent (shape m v) (getD st 0 [])
-  own-back = own-settled w (shape m v) (suc (m .tables)) lent st bs n (omega arith) (owes .names) (owes .eating) (omega arith) (owes .free) d (omega arith)
+    -- tables that were read can be written: 13 is not given for them
+    pub good-again : good (length s) (m .tables) (shape m 0) st ≡ true
+    good-again = o .judged (length s) st ∙ read-good w (m .tables) l s n st writable holds (omega arith)
 
-  rows-back : (t : ℕ) → 1 ≤ t → t ≤ m .tables → map (shownRow bs (kindOf t (shape m v))) (rowsAt (shape m v) (d .st) t) ≡
-      map (settledRow lent (kindOf t (shape m v))) (chunks (length (rowsAt (shape m v) (d .st) t)) (rowWidth (kindOf t (shape m v))) (getD st t []))
-  unfolding rowsAt
-  rows-back t a b = rows-settled w (shape m v) (suc (m .tables)) lent st bs n (omega arith) (owes .names) (owes .eating) (omega arith) (owes .free) d (owes .tree) (o .kinds) t (apart t a) (wide t a b) (omega arith)
+  module _ (w : Bool) (lent : List ℕ) (st : Tables) (bs : List ℕ) (n : ℕ) (tables-lent : length st ≡ suc (m .tables)) (short : length bs ≤ most)
+      (lent-good : good (length lent) (m .tables) (shape m 0) st ≡ true) (d : Laid w l (suc (m .tables)) bs (meant lent st l) n) where
+    own-back : shownRow bs l (getD (d .st) 0 []) ≡ settledRow lent l (getD st 0 [])
+    own-back = own-settled w l (suc (m .tables)) lent st bs n (omega arith) (owes .names) (owes .eating) (omega arith) (owes .free) d (omega arith)
 
-  pub returned : Returned m F v lent st bs (d .st)
-  returned = record {
-    tables = tables-read w (shape m v) (suc (m .tables)) lent st bs n (omega arith) (owes .names) (owes .eating) (omega arith) (owes .free) d;
-    own-row = own-back;
-    rows = every-row F (m .tables) (shape m v) lent bs st (d .st) (o .test) own-back rows-back (sym (o .judged (length lent) st) ∙ lent-good) (read-good w (m .tables) (shape m v) bs n (d .st) writable holds (omega arith));
-    none = λ t a b f.
-        let e = ap (λ (c : Bool). cond c (follows F (m .tables) (shape m v) t) (avoids t (shape m v))) (sym f) ∙ at-table F (m .tables) (shape m v) (o .test) t a b in
-        holds .others t (apart t a) ∙ ap joined (free-rows t (shape m v) (holds .x) (avoids-free t (shape m v) e));
-  }
+    rows-back : (t : ℕ) → 1 ≤ t → t ≤ m .tables → map (shownRow bs (kindOf t l)) (rowsAt l (d .st) t) ≡ map (settledRow lent (kindOf t l)) (chunks (length (rowsAt l (d .st) t)) (rowWidth (kindOf t l)) (getD st t []))
+    unfolding rowsAt
+    rows-back t a b = rows-settled w l (suc (m .tables)) lent st bs n (omega arith) (owes .names) (owes .eating) (omega arith) (owes .free) d (owes .tree) (o .kinds) t (apart t a) (wide t a b) (omega arith)
+
+    pub returned : Returned m F v lent st bs (d .st)
+    returned = record {
+      tables = tables-read w l (suc (m .tables)) lent st bs n (omega arith) (owes .names) (owes .eating) (omega arith) (owes .free) d;
+      own-row = own-back;
+      rows = every-row F (m .tables) l lent bs st (d .st) (o .test) own-back rows-back (sym (o .judged (length lent) st) ∙ lent-good) (sym (o .judged (length bs) (d .st)) ∙ good-again w bs (d .st) n short (d .reads));
+      none = λ t a b f.
+          let e = ap (λ (c : Bool). cond c (follows F (m .tables) l t) (avoids t l)) (sym f) ∙ at-table F (m .tables) l (o .test) t a b in
+          let x = holds w bs (d .st) n short (d .reads) in
+          x .others t (apart t a) ∙ ap joined (free-rows t l (x .x) (avoids-free t l e));
+    }

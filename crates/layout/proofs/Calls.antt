@@ -1,7 +1,7 @@
 -- The laws at the level of calls, for every message: what is refused before the bytes are looked at, that nothing behind the used bytes has a part,
 -- what tables and output hold after a refusal, and that what a write accepts a whole read accepts, with tables that mean the same.
 use mathlib.Core.Bool.{Bool, false, true, cond}
-use mathlib.Core.List.{List, [], _++_}
+use mathlib.Core.List.{List, [], _++_, _∷_}
 use mathlib.Core.Option.{Option, none, some}
 use mathlib.Core.Path.{_∙_, _≡_, ap, refl, subst, sym}
 use Prim.Native.Nat.{_+_, _/_, _<_, _≤_, suc, zero, ℕ}
@@ -9,13 +9,13 @@ use native.Mathlib.Omega.{arith}
 use lib.Dec.{leb, ltb}
 use lib.IntN.{ℤ, negsuc, pos}
 use lib.ListN.{drop, getD, length, replicate, take}
-use lib.Seq.{take-at}
+use lib.Seq.{drop-at, take-at}
 use borrow.Author.Tests.{ne-eqb}
 use Rattle.layout.specs.Reading.{Reader, Refusal, Res, bad, because, ok}
 use Rattle.layout.specs.Primitives.{minus}
 use Rattle.layout.specs.Rows.{Shape}
 use Rattle.layout.specs.Write.{fault}
-use Rattle.layout.specs.Tables.{Tables, append, good, readRows}
+use Rattle.layout.specs.Tables.{Tables, append, good, goodCount, readRows}
 use Rattle.layout.specs.Answers.{Answer, Message, accepted, body, ended, offered, judged, laid, made, meant, most, needed, prefixRead, readAnswer, refused, roomy, seen, shape, stored, widths, writeAnswer}
 use Rattle.layout.proofs.Contents.{Holds, rows-needed, rows-wide, rowsIn, tables-hold}
 use Rattle.layout.proofs.Every.{Every}
@@ -306,3 +306,22 @@ comes-back m h v lent st out r n after e = from-made (write-inv m v lent st out 
         let d = made-inv m v lent st (w .bs) n (w .is-made) in
         let t : take n after ≡ w .bs = ap (take n) (w .after-is) ∙ take-at (w .bs) (drop n out) n (sym (d .size-is)) in
         (ap length t ∙ sym (d .size-is), subst (ComesBack m v lent st) (sym t) (read-it (w .bs) d))
+
+-- ---- room: a table with just the rows needed is large enough, cells behind those filled stay, and a write that does not fit says all its bytes
+
+pub enough : (w : ℕ) (ws cs old : List ℕ) (st room : Tables) → length cs / w ≤ length old / w → needed (w ∷ ws) (cs ∷ st) (old ∷ room) ≡ needed ws st room
+unfolding needed
+enough w ws cs old st room h = rw (le-true (length cs / w) (length old / w) h)
+
+pub stays-behind : (cs old : List ℕ) (st room : Tables) → drop (length cs) (getD (laid (cs ∷ st) (old ∷ room)) 0 []) ≡ drop (length cs) old
+unfolding laid
+stays-behind cs old st room = drop-at cs (drop (length cs) old) (length cs) refl
+
+pub need-of-a-write : (m : Message) (v : ℤ) (lent : List ℕ) (st : Tables) (bs out : List ℕ) (n : ℕ) → made m v lent st ≡ ok bs n → length out < n → writeAnswer m v lent st out ≡ (refused (record { number = 10; place = 0; need = n }), out)
+unfolding writeAnswer
+need-of-a-write m v lent st bs out n e h = rw (e, le-false n (length out) h)
+
+-- 13 for a count of −1 where there is neither null nor unset
+pub no-null : goodCount false minus ≡ false
+unfolding goodCount
+no-null = refl

@@ -1,22 +1,65 @@
--- The feared night cannot come: of the three ApiVersions response layouts (version 0; 1 and 2; 3) at most one accepts a body read whole,
+-- ApiVersions responses. What is read can be written again at its version, and if its varints are shortest and nothing is null the same bytes come out.
+-- The feared night cannot come: of the three layouts (version 0; 1 and 2; 3) at most one accepts a body read whole,
 -- and what was written at a version is accepted whole there, comes back, and is refused at the other two.
-use mathlib.Core.Bool.{true}
-use mathlib.Core.List.{List}
+use mathlib.Core.Bool.{Bool, true}
+use mathlib.Core.List.{List, []}
 use mathlib.Core.Logic.{_≢_}
 use mathlib.Core.Path.{_∙_, _≡_, ap, refl, subst, sym}
 use Prim.Native.Nat.{_≤_, ℕ}
 use native.Mathlib.Omega.{arith}
 use lib.IntN.{ℤ, negsuc, pos}
-use lib.ListN.{length, take}
+use lib.ListN.{length, replicate, take}
+use lib.Seq.{take-length}
 use Rattle.layout.specs.Reading.{Refusal, Res, bad, ok}
-use Rattle.layout.specs.Rows.{Shape}
-use Rattle.layout.specs.Tables.{Tables}
-use Rattle.layout.specs.Answers.{accepted, meant, refused, seen, shape, wholeRead, writeAnswer}
+use Rattle.layout.specs.Rows.{Shape, Value}
+use Rattle.layout.specs.Read.{byBytes, read}
+use Rattle.layout.specs.Write.{fault, write}
+use Rattle.layout.specs.Tables.{Tables, append, readRows}
+use Rattle.layout.specs.Answers.{accepted, body, made, meant, most, refused, seen, shape, wholeRead, writeAnswer}
 use Rattle.layout.specs.Messages.ApiVersions as Api
-use Rattle.layout.proofs.Again.{means-again}
+use Rattle.layout.proofs.AllRows.{good-again}
 use Rattle.layout.proofs.Calls.{ComesBack, Seen, comes-back, read-inv, read-refused, seen-fits, seen-inv}
-use Rattle.layout.proofs.Exclusive.{Accepted, Era, eraOf, exclusive, layout-is, layoutOf}
-use Rattle.layout.proofs.Proper.{api-response}
+use Rattle.layout.proofs.Canon.{Bytes}
+use Rattle.layout.proofs.Clean.{Plain, yields-read}
+use Rattle.layout.proofs.Exclusive.{Accepted, Era, bare, eraOf, exclusive, flexible, layout-is, layoutOf, throttled}
+use Rattle.layout.proofs.Proper.{api-response, owed}
+use Rattle.layout.proofs.Returned.{api-response-follows, responseTables}
+use Rattle.layout.proofs.Strict.{canonical, strict}
+use Rattle.layout.proofs.Tests.{le-true}
+use Rattle.layout.proofs.Trip.{tables-mean}
+
+-- ---- what is read can be written again
+
+plain : (f : Era) → Plain (layoutOf f)
+plain bare = (tt, ((tt, (tt, (tt, tt))), tt))
+plain throttled = (tt, ((tt, (tt, (tt, tt))), (tt, tt)))
+plain flexible = (tt, ((tt, (tt, (tt, ((tt, (tt, tt)), tt)))), (tt, ((tt, (tt, tt)), tt))))
+
+module _ (v : ℕ) (known : v ≤ 3) where
+  abbrev l : Shape
+  l = shape Api.response v
+
+  module _ (w : Bool) (s : List ℕ) (st : Tables) (n : ℕ) (short : length s ≤ most) (d : readRows w append l 0 (replicate 3 []) 0 s ≡ ok st n) where
+    -- what the tables mean is what the bytes say
+    pub means-again : read (byBytes w) l 0 s ≡ ok (meant s st l) n
+    means-again = let o = owed Api.response api-response v known in tables-mean w l 3 s st n (omega arith) (o .names) (o .eating) (omega arith) d
+
+    -- 7 and 11 are not given
+    pub clean-again : Bytes s → fault l (meant s st l) ≡ 0
+    clean-again b = yields-read w l (subst Plain (sym (layout-is v known)) (plain (eraOf v))) .law 0 s (meant s st l) n b means-again .1
+
+  -- the tables of a strictly accepted body, written from the same message, give the body
+  pub same-bytes : (e : ℕ) (s : List ℕ) (x : Value (List ℕ) l) (st : Tables) → length s ≤ most → Bytes s → read (strict e) l 0 s ≡ ok x (length s) → readRows true append l 0 (replicate 3 []) 0 s ≡ ok st (length s) → made Api.response (pos v) s st ≡ ok s (length s)
+  unfolding made body
+  same-bytes e s x st short b r d =
+      let t = canonical e l s x (length s) b r in
+      let z : ok (meant s st l) (length s) ≡ ok x (length s) = sym (means-again true s st (length s) short d) ∙ t .0 in
+      let same : meant s st l ≡ x = cc in
+      let bytes-are : write l (meant s st l) ≡ s = ap (write l) same ∙ t .1 ∙ take-length s in
+      let good = good-again Api.response api-response (responseTables v) v known (api-response-follows v known) true s st (length s) short d in
+      rw (le-true v 3 known, good, clean-again true s st (length s) short d b, bytes-are, le-true (length s) most short)
+
+-- ---- at most one layout
 
 -- the layout of a version
 abbrev pub era : ℤ → Era

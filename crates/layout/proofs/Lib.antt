@@ -37,13 +37,11 @@ pub mod Good
 -- messages: what each owes, and the laws of its calls
 pub mod Proper
 pub mod Calls
-pub mod Room
 -- every row that was written comes back
 pub mod AllRows
 pub mod Returned
 -- ApiVersions responses: no body is good at two layouts, what was read is written again, and the mission's third demand
 pub mod Exclusive
-pub mod Again
 pub mod Demand3
 -- version agreement and address lookup
 pub mod FirstRow
