@@ -9,7 +9,7 @@ use Rattle.layout.specs.Primitives.{cell, keeps, w16, w32}
 use Rattle.layout.specs.Rows.{Shape, array, end, items, number, optional, stands}
 use Rattle.layout.specs.Read.{readBasic}
 use Rattle.layout.specs.Tables.{absentCells, cells, readRows, width}
-use Rattle.layout.proofs.Maps.{then-assoc}
+use Rattle.layout.proofs.Link.{then-assoc}
 use Rattle.primitives.specs.Answers.{ofRefusal}
 use Rattle.primitives.specs.declared.Refusal as Code
 use Rattle.body_reading.specs.Moved.{arrayItems}

@@ -9,8 +9,7 @@ use Rattle.layout.specs.Rows.{Shape, Value, absent, array, end, field, lacking}
 use Rattle.layout.specs.Read.{byPlace, read}
 use Rattle.layout.specs.Tables.{Span, absentCells, absentCount, cells, readRows}
 use Rattle.layout.proofs.Every.{listOf}
-use Rattle.layout.proofs.Link.{fold, itemsCell, keep, link}
-use Rattle.layout.proofs.Maps.{over}
+use Rattle.layout.proofs.Link.{fold, itemsCell, keep, link, over}
 
 -- the same refusal, or the same bytes used and what stands in R
 pub data Alike {S U : Type 0} (R : S → U → Type 0) : Res S → Res U → Type 0 where

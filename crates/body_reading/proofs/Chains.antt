@@ -8,7 +8,7 @@ use lib.ListN.{drop}
 use lib.Seq.{drop-drop}
 use Rattle.layout.specs.Reading.{Reader, Refusal, Res, bad, give, loop, more, next, ok, then}
 use Rattle.layout.proofs.Local.{not-ok}
-use Rattle.layout.proofs.Maps.{more-more}
+use Rattle.layout.proofs.Link.{more-more}
 use Rattle.body_reading.specs.Walk.{on}
 
 module _ {A B : Type 0} (r : Reader A) (f : A → Reader B) (s : List ℕ) (p : ℕ) where

@@ -10,8 +10,7 @@ use Rattle.layout.specs.Rows.{Shape, Value, absent, array, end, field, lacking}
 use Rattle.layout.specs.Read.{byPlace, read}
 use Rattle.layout.specs.Tables.{Span, absentCells, absentCount, cells}
 use Rattle.layout.proofs.Contents.{rowCells}
-use Rattle.layout.proofs.Link.{keep, link}
-use Rattle.layout.proofs.Maps.{over}
+use Rattle.layout.proofs.Link.{keep, link, over}
 use Rattle.body_reading.specs.Store.{State, Tab, add, own, store}
 use Rattle.body_reading.specs.Walk.{Place, on, walk}
 use Rattle.body_reading.proofs.Stores.{add-two}

@@ -10,7 +10,7 @@ use Rattle.layout.specs.Rows.{Basic, BasicValue, Shape, Value, absent, array, e
 use Rattle.layout.specs.Read.{byPlace, read, readBasic}
 use Rattle.layout.specs.Tables.{Span, absentCells, absentCount, cells, readRows}
 use Rattle.layout.proofs.Contents.{rowCells}
-use Rattle.layout.proofs.Maps.{over, then-assoc}
+use Rattle.layout.proofs.Link.{over, then-assoc}
 use Rattle.body_reading.specs.Store.{State, add}
 use Rattle.body_reading.specs.Walk.{on, walk}
 use Rattle.body_reading.proofs.Flat.{Flat, add-none}

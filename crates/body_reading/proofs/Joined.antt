@@ -10,7 +10,7 @@ use Rattle.layout.specs.Primitives.{Size, admits, checked, keeps, lengthOf, ref
 use Rattle.layout.specs.Rows.{Shape, absent, array, end, field, lacking}
 use Rattle.layout.specs.Read.{byPlace, readBasic}
 use Rattle.layout.specs.Tables.{absentCells, absentCount, cells, countCell, readRows}
-use Rattle.layout.proofs.Maps.{then-assoc}
+use Rattle.layout.proofs.Link.{then-assoc}
 use Rattle.body_reading.specs.Store.{State, add}
 use Rattle.body_reading.specs.Walk.{on, walk}
 use Rattle.body_reading.proofs.Front.{onto, then-give}

@@ -1,27 +1,26 @@
 -- The laws at the level of calls, for every message: what is refused before the bytes are looked at, that nothing behind the used bytes has a part,
 -- what tables and output hold after a refusal, and that what a write accepts a whole read accepts, with tables that mean the same.
-use mathlib.Core.Bool.{Bool, false, true, cond}
+use mathlib.Core.Bool.{Bool, cond, false, true}
 use mathlib.Core.List.{List, [], _++_, _∷_}
 use mathlib.Core.Option.{Option, none, some}
 use mathlib.Core.Path.{_∙_, _≡_, ap, refl, subst, sym}
 use Prim.Native.Nat.{_+_, _/_, _<_, _≤_, suc, zero, ℕ}
 use native.Mathlib.Omega.{arith}
 use lib.Dec.{leb, ltb}
-use lib.IntN.{ℤ, negsuc, pos}
+use lib.IntN.{negsuc, pos, ℤ}
 use lib.ListN.{drop, getD, length, replicate, take}
 use lib.Seq.{drop-at, take-at}
 use borrow.Author.Tests.{ne-eqb}
-use Rattle.layout.specs.Reading.{Reader, Refusal, Res, bad, because, ok}
+use Rattle.layout.specs.Reading.{Refusal, Res, bad, because, ok}
 use Rattle.layout.specs.Primitives.{minus}
 use Rattle.layout.specs.Rows.{Shape}
 use Rattle.layout.specs.Write.{fault}
 use Rattle.layout.specs.Tables.{Tables, append, good, goodCount, readRows}
-use Rattle.layout.specs.Answers.{Answer, Message, accepted, body, ended, offered, judged, laid, made, meant, most, needed, prefixRead, readAnswer, refused, roomy, seen, shape, stored, widths, writeAnswer}
+use Rattle.layout.specs.Answers.{Answer, Message, accepted, body, ended, judged, laid, made, meant, most, needed, offered, prefixRead, readAnswer, refused, roomy, seen, shape, stored, widths, writeAnswer}
 use Rattle.layout.proofs.Contents.{Holds, rows-needed, rows-wide, rowsIn, tables-hold}
 use Rattle.layout.proofs.Every.{Every}
-use Rattle.layout.proofs.Link.{link}
-use Rattle.layout.proofs.Local.{Local, Same, local-flag, local-read, local-unsigned, not-ok}
-use Rattle.layout.proofs.Maps.{Maps, over}
+use Rattle.layout.proofs.Link.{keep, link, over, under}
+use Rattle.layout.proofs.Local.{Local, local-flag, local-read, local-unsigned, not-ok}
 use Rattle.layout.proofs.Parts.{shown}
 use Rattle.layout.proofs.Proper.{owed, proper, width-same, widthAt}
 use Rattle.layout.proofs.Tests.{le-false, le-true, lt-false, of-ge, of-le}
@@ -87,19 +86,14 @@ seen-whole m v s st a b d = rw (le-true v (m .last) a, le-true (length s) most b
 
 -- ---- the answer rests on the bytes used
 
-maps-local : {A S : Type 0} (rs : Reader S) (r : Reader A) (g : A → S) → Maps rs r g → Local r → Local rs
-maps-local {A} {S} rs r g m l = record { law = λ p s y n e. go p s y n (r p s) refl (sym (m .law p s) ∙ e) }
-  where
-    go : (p : ℕ) (s : List ℕ) (y : S) (n : ℕ) (o : Res A) → r p s ≡ o → over g o ≡ ok y n → Same rs p s y n
-    go p s y n (ok x k) d e =
-        let z : g x ≡ y = cc in
-        let w : k ≡ n = cc in
-        let h = l .law p s x n (d ∙ ap (λ (j : ℕ). ok x j) w) in
-        record { fits = h .fits; same = λ t. m .law p (take n s ++ t) ∙ ap (over g) (h .same t) ∙ ap (λ (u : S). ok u n) z }
-    go p s y n (bad w) d e = not-ok e
-
 pub local-rows : {S : Type 0} (w : Bool) (add : ℕ → List ℕ → S → S) (l : Shape) (o : ℕ) (st : S) → Local (readRows w add l o st)
-local-rows w add l o st = maps-local _ _ _ (link w add l o st) (local-read _ local-unsigned local-flag l)
+local-rows w add l o st = record {
+  law = λ p s y n e.
+      let m = link w add l o st in
+      let u = under _ _ _ m p s y n e in
+      let h = local-read _ local-unsigned local-flag l .law p s (u .x) n (u .reads) in
+      record { fits = h .fits; same = λ t. m .law p (take n s ++ t) ∙ ap (over (λ x. keep add l o x st)) (h .same t) ∙ ap (λ z. ok z n) (u .is) };
+}
 
 module _ (m : Message) (v : ℤ) (s : List ℕ) where
   -- no more bytes are used than there are

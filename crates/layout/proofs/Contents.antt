@@ -8,7 +8,7 @@ use native.Mathlib.Nat.{add-comm, mul-div-cancel, suc-mul, zero-mul}
 use lib.Dec.{eqb}
 use lib.ListN.{getD, length, length-append, length-replicate, replicate}
 use lib.Seq.{drop-at, getD-set-other, getD-set-same, take-at}
-use Rattle.layout.specs.Reading.{Res, bad, ok}
+use Rattle.layout.specs.Reading.{ok}
 use Rattle.layout.specs.Primitives.{keeps}
 use Rattle.layout.specs.Rows.{Shape, Value, absent, array, end, field, lacking}
 use Rattle.layout.specs.Read.{byPlace, read}
@@ -16,9 +16,7 @@ use Rattle.layout.specs.Tables.{Span, Tables, absentCells, absentCount, 
 use Rattle.layout.proofs.Tests.{of-eq, of-ne}
 use Rattle.layout.proofs.Decode.{absent-width, cells-width}
 use Rattle.layout.proofs.Every.{All, Within, all-append, listOf}
-use Rattle.layout.proofs.Link.{itemsCell, keep, link}
-use Rattle.layout.proofs.Local.{not-ok}
-use Rattle.layout.proofs.Maps.{over}
+use Rattle.layout.proofs.Link.{itemsCell, link, under}
 use Rattle.layout.proofs.Same.{lay, layAll, moves, push, same-tables}
 
 -- ---- the rows of a value
@@ -167,21 +165,17 @@ pub record Holds (q : Bool) (l : Shape) (msg : List ℕ) (n : ℕ) (st : Tables)
 
 pub tables-hold : (q : Bool) (l : Shape) (N : ℕ) (msg : List ℕ) (st : Tables) (n : ℕ) → 0 < N → Within N l → Free 0 l → Tree l →
     readRows q append l 0 (replicate N []) 0 msg ≡ ok st n → Holds q l msg n st
-tables-hold q l N msg st n h w f sep e = go (read (byPlace q) l 0 msg) refl (sym (link q append l 0 (replicate N []) .law 0 msg) ∙ e)
-  where
-    go : (o : Res (Value Span l)) → read (byPlace q) l 0 msg ≡ o → over (λ x. keep append l 0 x (replicate N [])) o ≡ ok st n → Holds q l msg n st
-    go (ok x m) d c =
-        let z : keep append l 0 x (replicate N []) ≡ st = cc in
-        let y : m ≡ n = cc in
-        let i : lay l 0 x (replicate N []) ≡ st = sym (same-tables N l 0 x) ∙ z in
-        let k = contents N l 0 x (replicate N []) (length-replicate N []) h w f sep in
-        record {
-          x = x;
-          reads = d ∙ ap (λ (j : ℕ). ok x j) y;
-          own-row = ap (λ (u : Tables). getD u 0 []) (sym i) ∙ k .own-row ∙ ap (λ (u : List ℕ). rowCells l x ++ u) (none-there N 0) ∙ append-nil (rowCells l x);
-          others = λ t a. ap (λ (u : Tables). getD u t []) (sym i) ∙ k .others t a ∙ ap (λ (u : List ℕ). joined (rowsIn t l x) ++ u) (none-there N t) ∙ append-nil (joined (rowsIn t l x));
-        }
-    go (bad w) d c = not-ok c
+tables-hold q l N msg st n h w f sep e =
+    let u = under _ _ _ (link q append l 0 (replicate N [])) 0 msg st n e in
+    let x = u .x in
+    let i : st ≡ lay l 0 x (replicate N []) = sym (u .is) ∙ same-tables N l 0 x in
+    let k = contents N l 0 x (replicate N []) (length-replicate N []) h w f sep in
+    record {
+      x = x;
+      reads = u .reads;
+      own-row = ap (λ (u : Tables). getD u 0 []) i ∙ k .own-row ∙ ap (λ (u : List ℕ). rowCells l x ++ u) (none-there N 0) ∙ append-nil (rowCells l x);
+      others = λ t a. ap (λ (u : Tables). getD u t []) i ∙ k .others t a ∙ ap (λ (u : List ℕ). joined (rowsIn t l x) ++ u) (none-there N t) ∙ append-nil (joined (rowsIn t l x));
+    }
 
 -- ---- each row is as wide as its table says, so the rows come back from the cells, and the need is their number
 

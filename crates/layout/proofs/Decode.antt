@@ -2,7 +2,7 @@
 use mathlib.Core.Bool.{Bool, cond, false, true}
 use mathlib.Core.List.{List, [], _++_, _∷_, map}
 use mathlib.Core.Option.{none, some}
-use mathlib.Core.Path.{_∙_, _≡_, ap, refl, subst, sym}
+use mathlib.Core.Path.{_∙_, _≡_, ap, refl}
 use Prim.Native.Nat.{_<_, suc, ℕ}
 use lib.Dec.{ltb}
 use lib.ListN.{drop, getD, length, length-replicate, set, take}
@@ -11,9 +11,8 @@ use Rattle.layout.specs.Primitives.{Maybe, keeps, minus}
 use Rattle.layout.specs.Rows.{Basic, BasicValue, Shape, Value, absent, array, blob, boolean, end, field, lacking, level, natural, number, optional, text}
 use Rattle.layout.specs.Tables.{Span, Tables, absentCells, absentCount, basicOf, cells, chosen, count, itemsOf, pop, slice, span, spanOf, times, valueOf, width}
 use Rattle.layout.proofs.Tests.{not-minus}
-use Rattle.layout.proofs.Codecs.{mapBasic, mapMaybe, mapValue}
+use Rattle.layout.proofs.Link.{itemsCell, mapBasic, mapMaybe, mapValue}
 use Rattle.layout.proofs.Every.{All, Every, EveryMaybe, Few, Within, listOf}
-use Rattle.layout.proofs.Link.{itemsCell}
 use Rattle.layout.proofs.Same.{lay, layAll, length-push, push}
 
 pub pop-push : (t w : ℕ) (cs : List ℕ) (st : Tables) → t < length st → length cs ≡ w → pop t w (push t cs st) ≡ (cs, st)

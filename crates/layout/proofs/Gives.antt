@@ -10,7 +10,7 @@ use Rattle.layout.specs.Reading.{Reader, fail, give, here, many, ok, pai
 use Rattle.layout.specs.Primitives.{checked, sized}
 use Rattle.layout.proofs.Every.{All, EveryMaybe}
 use Rattle.layout.proofs.Local.{Local, not-ok}
-use Rattle.layout.proofs.Steps.{Raw, checked-inv, pair-inv, primitive-inv, raw-inv, split}
+use Rattle.layout.proofs.Steps.{Raw, checked-inv, primitive-inv, raw-inv, split}
 
 -- what is known where a reader stands, and still is behind the bytes that it used
 pub record Ground : Type 1 where

@@ -20,8 +20,6 @@ pub mod Canon
 pub mod Strict
 pub mod Clean
 -- readers that differ in what a text is, or in how rows are kept, give the same
-pub mod Maps
-pub mod Codecs
 pub mod Link
 -- the rows that a read keeps are those that a write takes, and mean the value
 pub mod Same

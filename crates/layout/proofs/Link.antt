@@ -1,21 +1,225 @@
--- The rows that a read keeps are those of the value that it gives: for every shape, and for every way of keeping rows.
+-- One reader gives what another gives, through a function, and both refuse alike: two codecs that differ in what they make of a text, so that the reader of the tables,
+-- whose texts are places, and the reader of the theorems, whose texts are bytes, accept the same bodies; and the reader that keeps rows, for every way of keeping them. For every shape.
 use mathlib.Core.Bool.{Bool, false, true}
-use mathlib.Core.List.{List, [], _∷_}
-use mathlib.Core.Option.{Option, none, some}
+use mathlib.Core.List.{List, [], _∷_, map}
 use mathlib.Core.Path.{_∙_, _≡_, ap, refl, subst, sym}
-use Prim.Native.Nat.{_-_, suc, zero, ℕ}
+use Prim.Native.Nat.{_+_, _-_, suc, zero, ℕ}
+use native.Mathlib.Nat.{add-assoc, add-zero}
+use lib.ListN.{drop, length}
+use lib.Seq.{drop-drop}
+use mathlib.Core.Option.{Option, none, some}
 use native.Mathlib.Omega.{arith}
 use lib.Dec.{eqb}
-use lib.ListN.{length}
-use Rattle.layout.specs.Reading.{Reader, give, loop, many, ok, pair, pick, then}
-use Rattle.layout.specs.Primitives.{Maybe, Null, Size, admits, admitsNull, checked, compact, empty, fixed, isKept, keeps, kept, minus, never, plain, sized}
-use Rattle.layout.specs.Rows.{Shape, Value, absent, array, end, field, lacking}
-use Rattle.layout.specs.Read.{byPlace, read}
+use Rattle.layout.specs.Reading.{Reader, Res, bad, fail, give, here, loop, many, more, next, ok, pair, pick, placed, primitive, then}
+use Rattle.layout.specs.Primitives.{Maybe, Null, Size, admits, admitsNull, checked, compact, empty, fixed, flag, isKept, keeps, kept, minus, never, plain, sized, unsigned, varint}
+use Rattle.layout.specs.Rows.{Basic, BasicValue, Shape, Value, absent, array, blob, boolean, end, field, lacking, level, natural, number, optional, text}
+use Rattle.layout.specs.Read.{Codec, byBytes, byPlace, read, readBasic, readBlob, readText}
 use Rattle.layout.specs.Tables.{Span, absentCells, absentCount, cells, countCell, readRows}
 use Rattle.layout.proofs.Every.{listOf}
 use Rattle.layout.proofs.Tests.{of-eq}
-use Rattle.layout.proofs.Maps.{Maps, always, maps-assoc, maps-give, maps-last, maps-same, maps-then}
+use Rattle.layout.proofs.Local.{not-ok}
 use Rattle.layout.proofs.Steps.{length-many, split}
+
+abbrev pub over : {A B : Type 0} → (A → B) → Res A → Res B
+over g (ok x n) = ok (g x) n
+over g (bad e) = bad e
+
+pub record Maps {A S : Type 0} (rs : Reader S) (r : Reader A) (g : A → S) : Type 0 where
+  pub law : (p : ℕ) (s : List ℕ) → rs p s ≡ over g (r p s)
+
+-- what is accepted was accepted so below
+pub record Under {A S : Type 0} (r : Reader A) (g : A → S) (p : ℕ) (s : List ℕ) (y : S) (n : ℕ) : Type 0 where
+  pub x : A
+  pub reads : r p s ≡ ok x n
+  pub is : g x ≡ y
+
+pub under : {A S : Type 0} (rs : Reader S) (r : Reader A) (g : A → S) → Maps rs r g → (p : ℕ) (s : List ℕ) (y : S) (n : ℕ) → rs p s ≡ ok y n → Under r g p s y n
+under {A} rs r g m p s y n e = go (r p s) refl (sym (m .law p s) ∙ e)
+  where
+    go : (o : Res A) → r p s ≡ o → over g o ≡ ok y n → Under r g p s y n
+    go (ok x k) d e = record { x = x; reads = d ∙ ap (ok x) (cc); is = cc }
+    go (bad c) d e = not-ok e
+
+pub maps-give : {A S : Type 0} (g : A → S) (x : A) → Maps (give (g x)) (give x) g
+unfolding give
+maps-give g x = record { law = λ p s. refl }
+
+pub over-more : {A B : Type 0} (g : A → B) (n : ℕ) (o : Res A) → over g (more n o) ≡ more n (over g o)
+over-more g n (ok x m) = refl
+over-more g n (bad e) = refl
+
+-- the second readers need to agree only on what the first one gives
+pub maps-then : {A B S U : Type 0} (rs : Reader S) (r : Reader A) (h : A → S) (fs : S → Reader U) (f : A → Reader B) (g : B → U) (Q : A → Type 0) →
+    Maps rs r h → ((p : ℕ) (s : List ℕ) (x : A) (n : ℕ) → r p s ≡ ok x n → Q x) → ((x : A) → Q x → Maps (fs (h x)) (f x) g) → Maps (then rs fs) (then r f) g
+unfolding then
+maps-then {A} {B} {S} {U} rs r h fs f g Q a q b = record { law = λ p s. rw (a .law p s) (go p s (r p s) refl) }
+  where
+    go : (p : ℕ) (s : List ℕ) (o : Res A) → r p s ≡ o → next (over h o) fs p s ≡ over g (next o f p s)
+    go p s (ok x n) d = ap (more n) (b x (q p s x n d) .law (p + n) (drop n s)) ∙ sym (over-more g n (f x (p + n) (drop n s)))
+    go p s (bad e) d = refl
+
+pub maps-same : {A : Type 0} (r : Reader A) → Maps r r (λ x. x)
+maps-same {A} r = record { law = λ p s. go (r p s) }
+  where
+    go : (o : Res A) → o ≡ over (λ x. x) o
+    go (ok x n) = refl
+    go (bad e) = refl
+
+pub maps-last : {A B S : Type 0} (rs : Reader S) (r : Reader A) (h : A → B) (g : B → S) → Maps rs r (λ x. g (h x)) → Maps rs (then r (λ x. give (h x))) g
+unfolding then give
+maps-last {A} {B} {S} rs r h g a = record { law = λ p s. a .law p s ∙ go p s (r p s) }
+  where
+    go : (p : ℕ) (s : List ℕ) (o : Res A) → over (λ x. g (h x)) o ≡ over g (next o (λ x. give (h x)) p s)
+    go p s (ok x n) = ap (λ (k : ℕ). ok (g (h x)) k) (sym (add-zero n))
+    go p s (bad e) = refl
+
+pub more-more : {A : Type 0} (a b : ℕ) (o : Res A) → more a (more b o) ≡ more (a + b) o
+more-more a b (ok x n) = ap (λ (k : ℕ). ok x k) (sym (add-assoc a b n))
+more-more a b (bad e) = refl
+
+pub then-assoc : {A B C : Type 0} (r : Reader A) (f : A → Reader B) (g : B → Reader C) (p : ℕ) (s : List ℕ) → then r (λ x. then (f x) g) p s ≡ then (then r f) g p s
+unfolding then
+then-assoc {A} {B} {C} r f g p s = go (r p s)
+  where
+    inner : (n : ℕ) (o : Res B) → more n (next o g (p + n) (drop n s)) ≡ next (more n o) g p s
+    inner n (ok y m) = rw (drop-drop, add-assoc) (more-more n m (g y (p + (n + m)) (drop (n + m) s)))
+    inner n (bad e) = refl
+
+    go : (o : Res A) → next o (λ x. then (f x) g) p s ≡ next (next o f p s) g p s
+    go (ok x n) = inner n (f x (p + n) (drop n s))
+    go (bad e) = refl
+
+pub maps-assoc : {A B C S : Type 0} (rs : Reader S) (r : Reader A) (f : A → Reader B) (g : B → Reader C) (h : C → S) → Maps rs (then r (λ x. then (f x) g)) h → Maps rs (then (then r f) g) h
+maps-assoc rs r f g h a = record { law = λ p s. a .law p s ∙ ap (over h) (then-assoc r f g p s) }
+
+pub always : {A : Type 0} (r : Reader A) (p : ℕ) (s : List ℕ) (x : A) (n : ℕ) → r p s ≡ ok x n → Unit {0}
+always r p s x n e = tt
+
+pub maps-fail : {A S : Type 0} (e : ℕ) (g : A → S) → Maps (fail e) (fail e) g
+unfolding fail
+maps-fail e g = record { law = λ p s. refl }
+
+pub maps-pick : {A S : Type 0} (b : Bool) (r q : Reader S) (r′ q′ : Reader A) (g : A → S) → Maps r r′ g → Maps q q′ g → Maps (pick b r q) (pick b r′ q′) g
+unfolding pick
+maps-pick true r q r′ q′ g h k = h
+maps-pick false r q r′ q′ g h k = k
+
+pub maps-primitive : {A S : Type 0} (r : Reader S) (r′ : Reader A) (g : A → S) → Maps r r′ g → Maps (primitive r) (primitive r′) g
+unfolding primitive
+maps-primitive {A} {S} r r′ g h = record { law = λ p s. ap (placed p) (h .law p s) ∙ go p (r′ p s) }
+  where
+    go : (p : ℕ) (o : Res A) → placed p (over g o) ≡ over g (placed p o)
+    go p (ok x n) = refl
+    go p (bad e) = refl
+
+pub maps-here : {A S : Type 0} (r : ℕ → Reader S) (r′ : ℕ → Reader A) (g : A → S) → ((p : ℕ) → Maps (r p) (r′ p) g) → Maps (here r) (here r′) g
+unfolding here
+maps-here r r′ g h = record { law = λ p s. h p .law p s }
+
+-- one after the other, with nothing to know of what the first gives
+pub maps-next : {A B S U : Type 0} (rs : Reader S) (r : Reader A) (h : A → S) (fs : S → Reader U) (f : A → Reader B) (g : B → U) → Maps rs r h → ((x : A) → Maps (fs (h x)) (f x) g) → Maps (then rs fs) (then r f) g
+maps-next rs r h fs f g a b = maps-then rs r h fs f g (λ x. Unit {0}) a (always r) (λ x u. b x)
+
+pub maps-many : {A S : Type 0} (rs : Reader S) (r : Reader A) (g : A → S) → Maps rs r g → (n : ℕ) → Maps (many n rs) (many n r) (map g)
+unfolding many
+maps-many rs r g h zero = maps-give (map g) []
+maps-many rs r g h (suc n) = maps-next _ _ g _ _ _ h (λ x. maps-next _ _ (map g) _ _ _ (maps-many rs r g h n) (λ xs. maps-give (map g) (x ∷ xs)))
+
+pub maps-pair : {A B S U : Type 0} (rs : Reader S) (r : Reader A) (g : A → S) (qs : Reader U) (q : Reader B) (h : B → U) → Maps rs r g → Maps qs q h → Maps (pair rs qs) (pair r q) (λ z. (g (z .0), h (z .1)))
+unfolding pair
+maps-pair rs r g qs q h a b = maps-next _ _ g _ _ _ a (λ x. maps-next _ _ h _ _ _ b (λ y. maps-give _ (x, y)))
+
+-- ---- two codecs
+
+-- ---- a value's texts, changed
+
+module _ {X Y : Type 0} (g : X → Y) where
+  abbrev pub mapMaybe : (b : Bool) → Maybe b X → Maybe b Y
+  mapMaybe true none = none
+  mapMaybe true (some x) = some (g x)
+  mapMaybe false x = g x
+
+  abbrev pub mapBasic : (k : Basic) → BasicValue X k → BasicValue Y k
+  mapBasic (number w) n = n
+  mapBasic boolean b = b
+  mapBasic level n = n
+  mapBasic natural n = n
+  mapBasic (text z) x = mapMaybe (keeps z) x
+  mapBasic (blob z) x = mapMaybe (keeps z) x
+  mapBasic (optional d k) x = mapBasic k x
+
+abbrev pub mapValue : {X Y : Type 0} (g : X → Y) (l : Shape) → Value X l → Value Y l
+mapValue g end x = tt
+mapValue g (field k r) x = (mapBasic g k (x .0), mapValue g r (x .1))
+mapValue g (absent k r) x = mapValue g r x
+mapValue g (array z t i r) x = (mapMaybe (map (mapValue g i)) (keeps z) (x .0), mapValue g r (x .1))
+mapValue g (lacking z t i r) x = mapValue g r x
+
+pub list-map : {A B : Type 0} (f : A → B) (b : Bool) (xs : Maybe b (List A)) → listOf b (mapMaybe (map f) b xs) ≡ map f (listOf b xs)
+list-map f true none = refl
+list-map f true (some xs) = refl
+list-map f false xs = refl
+
+maps-sized : {A S : Type 0} (b a : Bool) (e : ℕ) (len : Reader ℕ) (rs : ℕ → Reader S) (r : ℕ → Reader A) (g : A → S) → ((n : ℕ) → Maps (rs n) (r n) g) → Maps (sized b a e len rs) (sized b a e len r) (mapMaybe g b)
+unfolding sized
+maps-sized true a e len rs r g h =
+    maps-next _ _ (λ n. n) _ _ _ (maps-same _) (λ n. maps-pick _ _ _ _ _ _ (maps-give (mapMaybe g true) none) (maps-next _ _ g _ _ _ (h (n - 1)) (λ x. maps-give (mapMaybe g true) (some x))))
+maps-sized false a e len rs r g h = maps-next _ _ (λ n. n) _ _ _ (maps-same _) (λ n. h (n - 1))
+
+module _ {X Y : Type 0} (g : X → Y) (mk : ℕ → List ℕ → X) (v : Reader ℕ) (fl : Reader Bool) (q : Bool) where
+  abbrev pub fine : Codec
+  fine = record { Text = X; make = mk; varint = v; flag = fl; whole = q }
+
+  abbrev pub coarse : Codec
+  coarse = record { Text = Y; make = λ p b. g (mk p b); varint = v; flag = fl; whole = q }
+
+  maps-blob : (n : ℕ) → Maps (readBlob coarse n) (readBlob fine n) g
+  unfolding readBlob
+  maps-blob n = maps-here _ _ _ (λ p. maps-next _ _ (λ b. b) _ _ _ (maps-same _) (λ b. maps-give g (mk p b)))
+
+  maps-text : (n : ℕ) → Maps (readText coarse n) (readText fine n) g
+  unfolding readText
+  maps-text n = maps-here _ _ _ (λ p. maps-next _ _ (λ b. b) _ _ _ (maps-same _) (λ b. maps-pick _ _ _ _ _ _ (maps-give g (mk p b)) (maps-fail _ g)))
+
+  maps-basic : (k : Basic) → Maps (readBasic coarse k) (readBasic fine k) (mapBasic g k)
+  unfolding readBasic
+  maps-basic (number w) = maps-same _
+  maps-basic boolean = maps-same _
+  maps-basic level = maps-same _
+  maps-basic natural = maps-same _
+  maps-basic (text z) = maps-primitive _ _ _ (maps-sized (keeps z) _ _ _ _ _ g maps-text)
+  maps-basic (blob z) = maps-primitive _ _ _ (maps-sized (keeps z) _ _ _ _ _ g maps-blob)
+  maps-basic (optional d k) = maps-basic k
+
+  pub codecs : (l : Shape) → Maps (read coarse l) (read fine l) (mapValue g l)
+  unfolding read
+  codecs end = maps-give _ tt
+  codecs (field k r) = maps-pair _ _ _ _ _ _ (maps-basic k) (codecs r)
+  codecs (absent k r) = codecs r
+  codecs (array z t i r) =
+      maps-pair _ _ _ _ _ _ (maps-sized (keeps z) _ _ _ _ _ (map (mapValue g i)) (λ n. maps-many _ _ (mapValue g i) (codecs i) n)) (codecs r)
+  codecs (lacking z t i r) = codecs r
+
+-- a text as its place and its bytes: of it both of the others come
+abbrev pub Text : Type 0
+Text = ℕ × List ℕ
+
+abbrev pub byBoth : Bool → Codec
+byBoth q = record { Text = Text; make = λ p b. (p, b); varint = unsigned; flag = flag; whole = q }
+
+abbrev pub bytesOf : Text → List ℕ
+bytesOf x = x .1
+
+abbrev pub placeOf : Text → ℕ × ℕ
+placeOf x = (x .0, length (x .1))
+
+pub by-bytes : (q : Bool) (l : Shape) → Maps (read (byBytes q) l) (read (byBoth q) l) (mapValue bytesOf l)
+by-bytes q l = codecs bytesOf (λ p b. (p, b)) unsigned flag q l
+
+pub by-place : (q : Bool) (l : Shape) → Maps (read (byPlace q) l) (read (byBoth q) l) (mapValue placeOf l)
+by-place q l = codecs placeOf (λ p b. (p, b)) unsigned flag q l
+
+-- ---- the rows that a read keeps are those of the value that it gives
 
 -- ---- the rows of a value, kept behind what was kept before
 

@@ -9,19 +9,18 @@ use native.Mathlib.Omega.{arith}
 use lib.Dec.{ltb}
 use lib.ListN.{drop, length, length-drop, length-map}
 use lib.Seq.{drop-drop, length-take-le}
-use Rattle.layout.specs.Reading.{Reader, Res, bad, fail, give, here, many, ok, pair, pick, primitive, raw, then}
+use Rattle.layout.specs.Reading.{Reader, fail, give, many, ok, pair, pick, primitive, then}
 use Rattle.layout.specs.Utf8.{utf8}
 use Rattle.layout.specs.Primitives.{Maybe, Size, Width, cell, checked, compact, fixed, flag, groups, int, keeps, lengthOf, minus, plain, size, sized, unsigned, w16, w32, w64, w8}
 use Rattle.layout.specs.Rows.{Basic, BasicValue, Shape, Value, absent, array, blob, boolean, end, field, lacking, level, natural, number, optional, text}
 use Rattle.layout.specs.Read.{byBytes, byPlace, read, readBasic, readBlob, readText}
 use Rattle.layout.specs.Tables.{Span, slice}
 use Rattle.layout.proofs.Tests.{of-lt}
-use Rattle.layout.proofs.Codecs.{Text, by-bytes, by-place, byBoth, bytesOf, mapBasic, mapMaybe, mapValue, placeOf}
+use Rattle.layout.proofs.Link.{Text, by-bytes, by-place, byBoth, bytesOf, mapBasic, mapMaybe, mapValue, over, placeOf, under}
 use Rattle.layout.proofs.Every.{All, Every, EveryBasic, EveryMaybe, Few}
 use Rattle.layout.proofs.Gives.{Gives, Ground, gives-give, gives-local, gives-many, gives-pair, gives-part, gives-primitive, gives-sized}
 use Rattle.layout.proofs.Kept.{kept-cell, kept-length}
-use Rattle.layout.proofs.Local.{local-flag, local-unsigned, locals, not-ok}
-use Rattle.layout.proofs.Maps.{over}
+use Rattle.layout.proofs.Local.{local-flag, local-unsigned, locals}
 use Rattle.layout.proofs.Steps.{Raw, int-inv, many-uncons, primitive-inv, split}
 
 -- ---- varints are below 2^64, and take a byte at least
@@ -270,18 +269,10 @@ pub record Shown (K : ℕ) (q : Bool) (l : Shape) (msg : List ℕ) (x : Value Sp
   pub inside-it : Every K (λ t. t .0 + t .1 ≤ length msg) l x
 
 pub shown : (K : ℕ) (q : Bool) (l : Shape) (msg : List ℕ) (x : Value Span l) (n : ℕ) → length msg < K → Eating l → read (byPlace q) l 0 msg ≡ ok x n → Shown K q l msg x n
-shown K q l msg x n small eats e = go (read (byBoth q) l 0 msg) refl (sym (by-place q l .law 0 msg) ∙ e)
-  where
-    found : (y : Value Text l) → read (byBoth q) l 0 msg ≡ ok y n → Every K (Part msg) l y → mapValue placeOf l y ≡ x → Shown K q l msg x n
-    found y d p z = record {
-      bytes-are = by-bytes q l .law 0 msg ∙ ap (over (mapValue bytesOf l)) d ∙ ap (λ (w : Value (List ℕ) l). ok w n) (sym (same-map K placeOf (slice msg) bytesOf (Part msg) (λ t h. h .1) l y p) ∙ ap (mapValue (slice msg) l) z);
-      inside-it = subst (λ (w : Value Span l). Every K (λ t. t .0 + t .1 ≤ length msg) l w) z (every-map K placeOf (Part msg) (λ t. t .0 + t .1 ≤ length msg) (λ t h. h .0) l y p);
+shown K q l msg x n small eats e =
+    let u = under _ _ _ (by-place q l) 0 msg x n e in
+    let p = gives-read msg K small q l eats .law 0 msg (u .x) n (record { is = refl; fits = omega arith }) (u .reads) .1 in
+    record {
+      bytes-are = by-bytes q l .law 0 msg ∙ ap (over (mapValue bytesOf l)) (u .reads) ∙ ap (λ (w : Value (List ℕ) l). ok w n) (sym (same-map K placeOf (slice msg) bytesOf (Part msg) (λ t h. h .1) l (u .x) p) ∙ ap (mapValue (slice msg) l) (u .is));
+      inside-it = subst (λ (w : Value Span l). Every K (λ t. t .0 + t .1 ≤ length msg) l w) (u .is) (every-map K placeOf (Part msg) (λ t. t .0 + t .1 ≤ length msg) (λ t h. h .0) l (u .x) p);
     }
-
-    go : (o : Res (Value Text l)) → read (byBoth q) l 0 msg ≡ o → over (mapValue placeOf l) o ≡ ok x n → Shown K q l msg x n
-    go (ok y m) d c =
-        let z : mapValue placeOf l y ≡ x = cc in
-        let w : m ≡ n = cc in
-        let d′ : read (byBoth q) l 0 msg ≡ ok y n = d ∙ ap (λ (k : ℕ). ok y k) w in
-        found y d′ (gives-read msg K small q l eats .law 0 msg y n (record { is = refl; fits = omega arith }) d′ .1) z
-    go (bad w) d c = not-ok c

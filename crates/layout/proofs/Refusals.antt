@@ -5,7 +5,7 @@ use mathlib.Core.Path.{_∙_, _≡_, ap, refl, subst, sym}
 use Prim.Native.Nat.{_+_, _≤_, suc, ℕ}
 use native.Mathlib.Omega.{arith}
 use lib.Dec.{leb, ltb}
-use lib.IntN.{ℤ, negsuc, pos}
+use lib.IntN.{negsuc, pos, ℤ}
 use lib.ListN.{drop, length, length-drop, replicate, take}
 use Rattle.layout.specs.Reading.{Reader, Refusal, Res, bad, because, fail, give, here, more, next, ok, pick, placed, primitive, raw, then}
 use Rattle.layout.specs.Primitives.{flag, unsigned}
@@ -14,9 +14,8 @@ use Rattle.layout.specs.Read.{byPlace, read}
 use Rattle.layout.specs.Tables.{Span, Tables, append, readRows}
 use Rattle.layout.specs.Answers.{Message, ended, most, seen, shape}
 use Rattle.layout.proofs.Kept.{Kept, kept-flag, kept-read, kept-unsigned}
-use Rattle.layout.proofs.Link.{keep, link}
+use Rattle.layout.proofs.Link.{keep, link, over}
 use Rattle.layout.proofs.Local.{Local, locals}
-use Rattle.layout.proofs.Maps.{over}
 use Rattle.layout.proofs.Tests.{of-lt}
 
 -- a refusal of a reader that stands at p before s

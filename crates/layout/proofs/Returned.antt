@@ -12,7 +12,7 @@ use Rattle.layout.specs.Reading.{ok}
 use Rattle.layout.specs.Primitives.{minus}
 use Rattle.layout.specs.Rows.{at, standing, stands, tagRows}
 use Rattle.layout.specs.Tables.{Tables, addsUp, all, append, arrays, asked, from, good, goodCells, goodRow, kindIn, kindOf, readRows, rowWidth, rowsAt, slice, sum, width}
-use Rattle.layout.specs.Answers.{Message, accepted, seen, shape, writeAnswer}
+use Rattle.layout.specs.Answers.{Message, accepted, shape, writeAnswer}
 use Rattle.layout.specs.Messages.ApiVersions as Api
 use Rattle.layout.specs.Messages.Fetch as Fetch
 use Rattle.layout.specs.Messages.Metadata as Metadata

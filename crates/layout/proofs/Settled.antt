@@ -2,23 +2,19 @@
 use mathlib.Core.Bool.{Bool, cond, false, true}
 use mathlib.Core.List.{List, [], _∷_, map, map-map}
 use mathlib.Core.Option.{none, some}
-use mathlib.Core.Path.{_∙_, _≡_, ap, refl, subst, sym}
-use Prim.Native.Nat.{_+_, _<_, _≤_, suc, zero, ℕ}
+use mathlib.Core.Path.{_∙_, _≡_, ap, refl, sym}
+use Prim.Native.Nat.{_<_, suc, zero, ℕ}
 use lib.Dec.{eqb, eqb·suc-zero, lit<}
 use lib.ListN.{drop, getD, length, length-map, length-replicate, replicate}
-use Rattle.layout.specs.Reading.{Res, bad, ok}
+use Rattle.layout.specs.Reading.{ok}
 use Rattle.layout.specs.Primitives.{Maybe, Size, compact, empty, fixed, keeps, kept, minus, never, plain}
 use Rattle.layout.specs.Rows.{Basic, BasicValue, Shape, Value, absent, array, blob, boolean, end, field, lacking, level, natural, number, optional, text}
-use Rattle.layout.specs.Read.{byPlace, read}
 use Rattle.layout.specs.Tables.{Span, Tables, absentCells, absentCount, append, basicOf, cells, chosen, count, itemsOf, pop, readRows, slice, span, spanOf, times, valueOf, width}
 use Rattle.layout.specs.Answers.{meant}
 use Rattle.layout.specs.Settled.{Shown, gone, goneCount, num, part, settledCells, settledCount, settledSpan, shownCells, shownSpan}
-use Rattle.layout.proofs.Codecs.{list-map, mapBasic, mapMaybe, mapValue}
+use Rattle.layout.proofs.Link.{itemsCell, link, list-map, mapBasic, mapMaybe, mapValue, under}
 use Rattle.layout.proofs.Decode.{Takes, absent-width, cells-width, count-list, takes, takes-all, takes-field, takes-map, takes-none, takes-push, takes-then}
 use Rattle.layout.proofs.Every.{Every, EveryMaybe, Few, Within, few-list, listOf}
-use Rattle.layout.proofs.Link.{itemsCell, keep, link}
-use Rattle.layout.proofs.Local.{not-ok}
-use Rattle.layout.proofs.Maps.{over}
 use Rattle.layout.proofs.Parts.{Eating}
 use Rattle.layout.proofs.Parts as Parts
 use Rattle.layout.proofs.Same.{lay, layAll, same-tables}
@@ -262,18 +258,13 @@ settles lent (lacking z t i r) o = record { law = λ st. rw (settles lent r o .l
 pub read-holds : (q : Bool) (l : Shape) (N : ℕ) (msg : List ℕ) (su : Tables) (n : ℕ) → 0 < N → Within N l → Eating l → length msg < minus →
     readRows q append l 0 (replicate N []) 0 msg ≡ ok su n → told (asIs msg) l 0 su ≡ (ofValue l (meant msg su l), replicate N [])
 unfolding meant
-read-holds q l N msg su n first names eats small e = go (read (byPlace q) l 0 msg) refl (sym (link q append l 0 (replicate N []) .law 0 msg) ∙ e)
-  where
-    go : (o : Res (Value Span l)) → read (byPlace q) l 0 msg ≡ o → over (λ x. keep append l 0 x (replicate N [])) o ≡ ok su n → told (asIs msg) l 0 su ≡ (ofValue l (valueOf msg l 0 su .0), replicate N [])
-    go (ok x m) d c =
-        let z : keep append l 0 x (replicate N []) ≡ su = cc in
-        let w : m ≡ n = cc in
-        let i : su ≡ lay l 0 x (replicate N []) = sym z ∙ same-tables N l 0 x in
-        let s = Parts.shown minus q l msg x n small eats (d ∙ ap (λ (k : ℕ). ok x k) w) in
-        let f = ap (valueOf msg l 0) i ∙ takes msg N (λ t. t .0 + t .1 ≤ length msg) l 0 x first names (s .inside-it) .law (replicate N []) (length-replicate N []) in
-        let g = ap (told (asIs msg) l 0) i ∙ holds msg N (λ t. t .0 + t .1 ≤ length msg) l 0 x first names (s .inside-it) .law (replicate N []) (length-replicate N []) in
-        g ∙ ap (λ (v : Value (List ℕ) l × Tables). (ofValue l (v .0), replicate N [])) (sym f)
-    go (bad w) d c = not-ok c
+read-holds q l N msg su n first names eats small e =
+    let u = under _ _ _ (link q append l 0 (replicate N [])) 0 msg su n e in
+    let i : su ≡ lay l 0 (u .x) (replicate N []) = sym (u .is) ∙ same-tables N l 0 (u .x) in
+    let s = Parts.shown minus q l msg (u .x) n small eats (u .reads) .inside-it in
+    let f = ap (valueOf msg l 0) i ∙ takes msg N _ l 0 (u .x) first names s .law (replicate N []) (length-replicate N []) in
+    let g = ap (told (asIs msg) l 0) i ∙ holds msg N _ l 0 (u .x) first names s .law (replicate N []) (length-replicate N []) in
+    g ∙ ap (λ (v : Value (List ℕ) l × Tables). (ofValue l (v .0), replicate N [])) (sym f)
 
 -- tables that are read and mean what the tables lent meant hold these settled, and nothing else
 pub comes-settled : (q : Bool) (l : Shape) (N : ℕ) (lent : List ℕ) (st : Tables) (msg : List ℕ) (n : ℕ) → 0 < N → Within N l → Eating l → length msg < minus →

@@ -2,7 +2,7 @@
 use mathlib.Core.Bool.{Bool, cond, false, true}
 use mathlib.Core.List.{List, [], _++_, _∷_, map, map-append, map-map}
 use mathlib.Core.Path.{_∙_, _≡_, ap, refl, subst, sym}
-use Prim.Native.Nat.{_+_, _-_, _<_, _≤_, suc, zero, ℕ}
+use Prim.Native.Nat.{_+_, _<_, _≤_, suc, zero, ℕ}
 use native.Mathlib.Omega.{arith}
 use lib.Dec.{eqb}
 use lib.ListN.{drop, getD, length, length-map, length-replicate, length-set, replicate, take}
@@ -14,17 +14,15 @@ use Rattle.layout.specs.Rows.{Shape, Value, absent, array, end, field, l
 use Rattle.layout.specs.Tables.{Span, Tables, absentCells, append, cells, chunks, count, kindOf, pop, rowWidth, rowsOf, slice, times, width}
 use Rattle.layout.specs.Answers.{meant}
 use Rattle.layout.specs.Settled.{Shown, gone, goneCount, num, settledCells, settledCount, settledRow, shownCells, shownRow}
-use Rattle.layout.proofs.Codecs.{list-map, mapMaybe, mapValue}
+use Rattle.layout.proofs.Link.{keep, link, list-map, mapMaybe, mapValue, over}
 use Rattle.layout.proofs.Contents.{Free, Holds, Tree, flatten, rowCells, rows-back, rows-wide, rowsIn, tables-hold}
 use Rattle.layout.proofs.Decode.{absent-width, cells-width}
 use Rattle.layout.proofs.Every.{Within, listOf}
 use Rattle.layout.proofs.Good.{Kinds, kinds-wide}
-use Rattle.layout.proofs.Link.{keep, link}
-use Rattle.layout.proofs.Maps.{over}
 use Rattle.layout.proofs.Parts.{Eating}
 use Rattle.layout.proofs.Parts as Parts
 use Rattle.layout.proofs.Same.{same-tables}
-use Rattle.layout.proofs.Settled.{Held, Telling, asBack, asIs, comes-settled, holds, map-cell, ofValue, shown-absent, shown-basic, shown-lacking, settled, shown, told}
+use Rattle.layout.proofs.Settled.{Held, Telling, asBack, asIs, comes-settled, holds, map-cell, ofValue, settled, shown, shown-absent, shown-basic, shown-lacking, told}
 use Rattle.layout.proofs.Tests.{of-eq, of-ne}
 use Rattle.layout.proofs.Trip.{Laid}
 

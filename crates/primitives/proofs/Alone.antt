@@ -14,7 +14,7 @@ use Rattle.layout.specs.Primitives.{Width, cell, int, integer, signed, size, w6
 use Rattle.layout.specs.Answers.{alone}
 use Rattle.layout.proofs.Canon.{Bytes, canon-int}
 use Rattle.layout.proofs.Cells.{extend, extend-shows, powers}
-use Rattle.layout.proofs.Maps.{over}
+use Rattle.layout.proofs.Link.{over}
 use Rattle.layout.proofs.Tests.{le-false, le-true}
 use Rattle.primitives.specs.Answers.{ofNumber, ofShown, unlessLong}
 use Rattle.primitives.specs.declared.Number.{Number}

@@ -10,7 +10,7 @@ use lib.ListN.{drop, getD, length, length-drop, take}
 use lib.Seq.{drop-drop, getD-drop}
 use Rattle.layout.specs.Reading.{Reader, Refusal, Res, bad, because, fail, give, more, ok, pick, placed, primitive, then}
 use Rattle.layout.specs.Primitives.{be, groups, int, unsigned}
-use Rattle.layout.proofs.Maps.{more-more}
+use Rattle.layout.proofs.Link.{more-more}
 use Rattle.layout.proofs.Steps.{int-bad, int-ok, then-bad, then-ok}
 use Rattle.layout.proofs.Tests.{lt-false, lt-true, of-ge, of-lt}
 use Rattle.primitives.specs.Answers.{tenthByte}

@@ -11,7 +11,7 @@ use lib.IntN.{negsuc, pos, ℤ}
 use borrow.Author.Tests.{eq-eqb, ne-eqb}
 use Rattle.layout.specs.Reading.{Refusal, bad, because, fail, give, more, ok, pick, placed, primitive}
 use Rattle.layout.specs.Primitives.{cellOf, groups, signed, unsigned, unzigzag, varint, varlong, w64}
-use Rattle.layout.proofs.Maps.{over}
+use Rattle.layout.proofs.Link.{over}
 use Rattle.layout.proofs.Cells.{shows-neg, shows-pos}
 use Rattle.layout.proofs.Steps.{primitive-place, then-bad, then-ok}
 use Rattle.layout.proofs.Tests.{lt-false, lt-true}
