@@ -6,20 +6,22 @@ use mathlib.Core.Path.{_∙_, _≡_, ap, refl, subst, sym}
 use Prim.Native.Nat.{_%_, _*_, _+_, _-_, _/_, _<_, _^_, _≤_, suc, zero, ℕ}
 use native.Mathlib.Nat.{add-mul, div-add-mod', mul-assoc, mul-comm, pow-suc, suc-ne-zero}
 use native.Mathlib.Omega.{arith}
-use lib.Dec.{lit<, ltb}
+use lib.Dec.{eqb, lit<, ltb}
 use lib.ListN.{length, length-append}
 use lib.Seq.{drop-append-seam, take-append-seam}
 use borrow.Author.Tests.{eq-eqb}
+use mathlib.Core.Logic.{_≢_}
+use lib.IntN.{negsuc, pos, ℤ}
 use Rattle.layout.specs.Reading.{Reader, give, here, many, ok, pair, pick, placed, primitive, raw, then}
 use Rattle.layout.specs.Utf8.{utf8}
-use Rattle.layout.specs.Primitives.{Maybe, Null, Size, Width, be, bits, bytes, cell, checked, compact, fixed, flag, flagBytes, groups, holds, int, integer, integerBytes, keeps, lengthBytes, lengthOf, limit, nullBytes, plain, shortest, signed, size, sized, sizedBytes, unsigned, unsignedBytes, w16, w32, w64, w8}
+use Rattle.layout.specs.Primitives.{Maybe, Null, Size, Width, be, bits, bytes, cell, checked, compact, fixed, flag, flagBytes, groups, holds, int, integer, integerBytes, keeps, lengthBytes, lengthOf, limit, nullBytes, plain, shortest, signed, size, sized, sizedBytes, unsigned, unsignedBytes, unzigzag, varint, varlong, w16, w32, w64, w8, zigzag, zigzagBytes}
 use Rattle.layout.specs.Rows.{Basic, BasicValue, Shape, Value, absent, array, blob, boolean, end, field, lacking, level, natural, number, optional, text}
 use Rattle.layout.specs.Read.{byBytes, read, readBasic, readBlob, readText}
 use Rattle.layout.specs.Answers.{most}
 use Rattle.layout.specs.Write.{basicFault, each, fault, firstOf, or, sizedFault, tooLong, unless, write, writeBasic}
-use Rattle.layout.proofs.Tests.{lt-false, lt-true, of-le, of-lt, one-more}
+use Rattle.layout.proofs.Tests.{lt-false, lt-true, of-eq, of-le, of-lt, of-ne, one-more}
 use Rattle.layout.proofs.Cells.{extend, extend-bytes, pattern, powers}
-use Rattle.layout.proofs.Local.{raw-ok}
+use Rattle.layout.proofs.Local.{Local, local-fail, local-give, local-pick, local-primitive, local-then, local-unsigned, raw-ok}
 use Rattle.layout.proofs.Parts.{Eating, Eats}
 
 -- r reads w as x, whatever follows
@@ -331,3 +333,41 @@ module _ (q : Bool) where
       (back-sized (keeps z) _ _ z _ (λ xs. each (write i) xs) _ refl (each-long (write i) (write-long i (a .0))) (back-many (read (byBytes q) i) (write i) (fault i) (λ y. back-read i y (a .1))) (x .0) (o .0) (s .0))
       (back-read r (x .1) (a .2) (o .1) (s .1))
   back-read (lacking z t i r) x a h m = back-read r x a h m
+
+-- ---- Varint and Varlong: zigzag goes there and back, and they keep the laws of the unsigned varint under them
+
+pub there-and-back : (z : ℤ) → unzigzag (zigzag z) ≡ z
+unfolding unzigzag zigzag
+there-and-back (pos n) =
+    let a : 2 * n % 2 ≡ 0 = omega arith in
+    let b : 2 * n / 2 ≡ n = omega arith in
+    rw (a, b)
+there-and-back (negsuc n) =
+    let a : (2 * n + 1) % 2 ≡ 1 = omega arith in
+    let b : (2 * n + 1) / 2 ≡ n = omega arith in
+    rw (a, b)
+
+pub back-and-there : (n : ℕ) → zigzag (unzigzag n) ≡ n
+unfolding unzigzag zigzag
+back-and-there n = go (eqb (n % 2) 0) refl
+  where
+    go : (b : Bool) → eqb (n % 2) 0 ≡ b → zigzag (cond b (pos (n / 2)) (negsuc (n / 2))) ≡ n
+    go true e = let h : n % 2 ≡ 0 = of-eq _ _ e in omega arith
+    go false e = let h : n % 2 ≢ 0 = of-ne _ _ e in omega arith
+
+pub back-varlong : (z : ℤ) → zigzag z < 2 ^ 64 → Back varlong (zigzagBytes z) z
+unfolding varlong zigzagBytes
+back-varlong z h = back-is _ _ _ _ (there-and-back z) (back-map unsigned unzigzag (unsignedBytes (zigzag z)) (zigzag z) (back-unsigned (zigzag z) h))
+
+pub back-varint : (z : ℤ) → zigzag z < 2 ^ 32 → Back varint (zigzagBytes z) z
+unfolding varint zigzagBytes
+back-varint z h =
+    back-primitive _ _ _ (back-last _ _ _ (zigzag z) _ (back-unsigned (zigzag z) (omega arith)) (back-true _ _ _ _ _ (lt-true (zigzag z) (2 ^ 32) h) (back-is _ _ _ _ (there-and-back z) (back-give (unzigzag (zigzag z))))))
+
+pub local-varlong : Local varlong
+unfolding varlong
+local-varlong = local-then _ _ local-unsigned (λ n. local-give _)
+
+pub local-varint : Local varint
+unfolding varint
+local-varint = local-primitive _ (local-then _ _ local-unsigned (λ n. local-pick _ _ _ (local-give _) (local-fail _)))

@@ -16,7 +16,7 @@ use Rattle.layout.specs.Read.{byBytes, read, readBasic, readBlob, readTe
 use Rattle.layout.specs.Write.{basicFault, fault, firstOf, or, sizedFault, tooLong, unless}
 use Rattle.layout.proofs.Tests.{lt-false, lt-true, of-lt}
 use Rattle.layout.proofs.Cells.{extend, extend-holds, powers}
-use Rattle.layout.proofs.Canon.{Bytes, bytes-drop, canon-int}
+use Rattle.layout.proofs.Strict.{Bytes, bytes-drop, canon-int}
 use Rattle.layout.proofs.Every.{All, EveryMaybe}
 use Rattle.layout.proofs.Gives.{Gives, Ground, gives-fail, gives-give, gives-local, gives-many, gives-pair, gives-part, gives-pick, gives-primitive, gives-sized, gives-then, gives-weak}
 use Rattle.layout.proofs.Kept.{kept-int}

@@ -7,7 +7,7 @@ use mathlib.Core.Logic.{_≢_}
 use mathlib.Core.Path.{_∙_, _≡_, ap, refl, subst, sym}
 use Prim.Native.Nat.{_≤_, ℕ}
 use native.Mathlib.Omega.{arith}
-use lib.IntN.{ℤ, negsuc, pos}
+use lib.IntN.{negsuc, pos, ℤ}
 use lib.ListN.{length, replicate, take}
 use lib.Seq.{take-length}
 use Rattle.layout.specs.Reading.{Refusal, Res, bad, ok}
@@ -19,12 +19,11 @@ use Rattle.layout.specs.Answers.{accepted, body, made, meant, most, refu
 use Rattle.layout.specs.Messages.ApiVersions as Api
 use Rattle.layout.proofs.AllRows.{good-again}
 use Rattle.layout.proofs.Calls.{ComesBack, Seen, comes-back, read-inv, read-refused, seen-fits, seen-inv}
-use Rattle.layout.proofs.Canon.{Bytes}
+use Rattle.layout.proofs.Strict.{Bytes, canonical, strict}
 use Rattle.layout.proofs.Clean.{Plain, yields-read}
 use Rattle.layout.proofs.Exclusive.{Accepted, Era, bare, eraOf, exclusive, flexible, layout-is, layoutOf, throttled}
 use Rattle.layout.proofs.Proper.{api-response, owed}
 use Rattle.layout.proofs.Returned.{api-response-follows, responseTables}
-use Rattle.layout.proofs.Strict.{canonical, strict}
 use Rattle.layout.proofs.Tests.{le-true}
 use Rattle.layout.proofs.Trip.{tables-mean}
 

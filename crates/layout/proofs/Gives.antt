@@ -10,7 +10,7 @@ use Rattle.layout.specs.Reading.{Reader, fail, give, here, many, ok, pai
 use Rattle.layout.specs.Primitives.{checked, sized}
 use Rattle.layout.proofs.Every.{All, EveryMaybe}
 use Rattle.layout.proofs.Local.{Local, not-ok}
-use Rattle.layout.proofs.Steps.{Raw, checked-inv, primitive-inv, raw-inv, split}
+use Rattle.layout.proofs.Steps.{Raw, checked-inv, piece-inv, primitive-inv, split}
 
 -- what is known where a reader stands, and still is behind the bytes that it used
 pub record Ground : Type 1 where
@@ -65,15 +65,7 @@ module _ {G : Ground} where
   -- n bytes that pass the test t, made into a text
   pub gives-part : {X : Type 0} (t : List ℕ → Bool) (make : ℕ → List ℕ → X) (n : ℕ) (P : X → Type 0) → ((p : ℕ) (s b : List ℕ) (m : ℕ) → G .At p s → Raw n s b m → t b ≡ true → P (make p b)) →
       Gives G (here (λ p. then (raw n) (λ b. pick (t b) (give (make p b)) (fail 7)))) P
-  unfolding here
-  gives-part t make n P h = record {
-    law = λ p s x m a e.
-        let d = split (raw n) _ p s x m e in
-        let r = raw-inv n p s (d .x) (d .n) (d .first) in
-        let l : d .n ≤ length s = omega (arith, r .used, r .fits) in
-        let g = gives-pick (t (d .x)) _ _ P (λ u. gives-give (make p (d .x)) P (h p s (d .x) (d .n) a r u)) (λ u. gives-fail 7 P) .law (p + d .n) (drop (d .n) s) x (d .k) (G .onward p (d .n) s a l) (d .second) in
-        (omega (arith, d .sum, g .0, length-drop (d .n) s), g .1);
-  }
+  gives-part t make n P h = record { law = λ p s x m a e. let d = piece-inv t make n p s x m e in (omega (arith, d .is-raw .used, d .is-raw .fits), subst P (d .is) (h p s (d .b) m a (d .is-raw) (d .passes))) }
 
   pub gives-sized : {A : Type 0} (b a : Bool) (e : ℕ) (len : Reader ℕ) (r : ℕ → Reader A) (L : ℕ → Type 0) (P : A → Type 0) → Gives G len L → ((n : ℕ) → L n → Gives G (r (n - 1)) P) → Gives G (sized b a e len r) (EveryMaybe P b)
   unfolding sized

@@ -1,4 +1,4 @@
--- tools: tests of numbers, a reader's steps backward, sums, what holds of all texts of a value, the rows of a table
+-- tools: tests of numbers, what every step of a reader keeps, a reader's steps backward, what it gives, what holds of all texts of a value, sums, the rows of a table
 pub mod Tests
 pub mod Kept
 pub mod Steps
@@ -6,17 +6,15 @@ pub mod Gives
 pub mod Every
 pub mod Sums
 pub mod Chunks
--- primitives: numbers as cells, zigzag, text by the grammar
+-- primitives: numbers as cells, text by the grammar
 pub mod Cells
-pub mod Zigzag
 pub mod Text
 -- an accepted read rests on the bytes it used; a refused one tells a number and a place in the message
 pub mod Local
 pub mod Refusals
--- what is written reads back
+-- what is written reads back, zigzag too
 pub mod Back
 -- with shortest varints, what is read is written the same; and what was read has no 7 or 11
-pub mod Canon
 pub mod Strict
 pub mod Clean
 -- readers that differ in what a text is, or in how rows are kept, give the same

@@ -8,7 +8,7 @@ use native.Mathlib.Omega.{arith}
 use lib.Dec.{eqb, leb}
 use lib.ListN.{drop, length, take}
 use borrow.Author.Tests.{leb-false}
-use Rattle.layout.specs.Reading.{Reader, Refusal, Res, bad, because, fail, give, many, more, next, ok, pair, pick, placed, primitive, raw, then}
+use Rattle.layout.specs.Reading.{Reader, Refusal, Res, bad, because, fail, give, here, many, more, next, ok, pair, pick, placed, primitive, raw, then}
 use Rattle.layout.specs.Primitives.{be, checked, int}
 use Rattle.layout.proofs.Tests.{le-false, of-eq, of-le}
 use Rattle.layout.proofs.Local.{not-ok, raw-ok}
@@ -113,6 +113,21 @@ primitive-inv {A} r p s x n e = go (r p s) refl e
     go : (o : Res A) → r p s ≡ o → placed p o ≡ ok x n → r p s ≡ ok x n
     go (ok y m) d e = d ∙ e
     go (bad c) d e = not-ok e
+
+-- n bytes that pass the test t, and what is made of them
+pub record Piece {X : Type 0} (t : List ℕ → Bool) (make : ℕ → List ℕ → X) (n p : ℕ) (s : List ℕ) (x : X) (m : ℕ) : Type 0 where
+  pub b : List ℕ
+  pub is-raw : Raw n s b m
+  pub passes : t b ≡ true
+  pub is : make p b ≡ x
+
+pub piece-inv : {X : Type 0} (t : List ℕ → Bool) (make : ℕ → List ℕ → X) (n p : ℕ) (s : List ℕ) (x : X) (m : ℕ) → here (λ p. then (raw n) (λ b. pick (t b) (give (make p b)) (fail 7))) p s ≡ ok x m → Piece t make n p s x m
+unfolding here pick give fail
+piece-inv t make n p s x m e = let a = split (raw n) _ p s x m e in go (a .x) (a .n) (a .k) (a .sum) (raw-inv n p s (a .x) (a .n) (a .first)) (t (a .x)) refl (a .second)
+  where
+    go : (b : List ℕ) (i k : ℕ) → m ≡ i + k → Raw n s b i → (c : Bool) → t b ≡ c → pick c (give (make p b)) (fail 7) (p + i) (drop i s) ≡ ok x k → Piece t make n p s x m
+    go b i k u r true d g = let z : 0 ≡ k = cc in record { b = b; is-raw = record { fits = r .fits; is = r .is; used = omega (arith, r .used) }; passes = d; is = cc }
+    go b i k u r false d g = not-ok g
 
 -- a primitive refuses at its own start, and asks for nothing
 pub primitive-place : {A : Type 0} (r : Reader A) (p : ℕ) (s : List ℕ) (e : Refusal) → primitive r p s ≡ bad e → e ≡ because (e .number) p

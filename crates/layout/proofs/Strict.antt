@@ -1,19 +1,255 @@
--- With shortest varints and Booleans of 0 or 1, a body accepted whole is what its value is written as: for every shape.
+-- What is read is what is written. Where varints are shortest, Booleans 0 or 1 and nothing is null that is read as empty, an accepted read's bytes are those of its value;
+-- so a body that a reader takes only in that form is what its value is written as. For every shape.
 use mathlib.Core.Bool.{Bool, cond, false, true}
-use mathlib.Core.List.{List, [], _∷_}
+use mathlib.Core.List.{List, [], _++_, _∷_, append-assoc, append-nil}
+use mathlib.Core.Option.{Option, none, some}
 use mathlib.Core.Path.{_∙_, _≡_, ap, refl, subst, sym}
-use Prim.Native.Nat.{_+_, ℕ}
+use Prim.Native.Nat.{_%_, _*_, _+_, _-_, _/_, _<_, _^_, suc, zero, ℕ}
+use native.Mathlib.Nat.{add-suc, add-zero, pow-suc, suc-add, zero-add}
+use native.Mathlib.Numerals.{add-one}
+use native.Mathlib.Omega.{arith}
 use lib.Dec.{T, eqb, eqb→eq}
-use lib.ListN.{drop, take}
-use Rattle.layout.specs.Reading.{Reader, Res, bad, because, here, more, ok, pick, placed, primitive, then}
-use Rattle.layout.specs.Primitives.{flag, flagBytes, unsigned, unsignedBytes}
-use Rattle.layout.specs.Rows.{Shape, Value}
-use Rattle.layout.specs.Read.{Codec, byBytes, read}
-use Rattle.layout.specs.Write.{write}
-use Rattle.layout.proofs.Canon.{Bytes, Canon, Took, canon-read}
-use Rattle.layout.proofs.Kept.{Kept, kept-read}
+use lib.ListN.{drop, length, take}
+use lib.Seq.{length-take-le, take-add}
+use Rattle.layout.specs.Reading.{Reader, Res, bad, because, fail, give, here, many, more, ok, pair, pick, placed, primitive, raw, then}
+use Rattle.layout.specs.Utf8.{utf8}
+use Rattle.layout.specs.Primitives.{Null, Size, Width, admits, admitsNull, be, bits, bytes, cell, checked, compact, empty, fixed, flag, flagBytes, int, isKept, keeps, kept, lengthBytes, lengthOf, never, nullBytes, plain, size, sized, sizedBytes, unsigned, unsignedBytes, w8}
+use Rattle.layout.specs.Rows.{Basic, Shape, Value, absent, array, blob, boolean, end, field, lacking, level, natural, number, optional, text}
+use Rattle.layout.specs.Read.{Codec, byBytes, read, readBasic, readBlob, readText}
+use Rattle.layout.specs.Write.{each, write, writeBasic}
+use Rattle.layout.proofs.Cells.{extend, extend-bytes, powers}
+use Rattle.layout.proofs.Every.{All}
 use Rattle.layout.proofs.Local.{not-ok}
-use Rattle.layout.proofs.Steps.{Split, primitive-inv, split, then-ok}
+use Rattle.layout.proofs.Steps.{Split, checked-inv, checked-some, int-inv, length-many, many-none, many-uncons, pair-inv, piece-inv, primitive-inv, split, then-ok}
+use Rattle.layout.proofs.Kept.{Kept, kept-read}
+
+abbrev pub Bytes : List ℕ → Type 0
+Bytes s = All (λ b. b < 256) s
+
+pub bytes-drop : (n : ℕ) (s : List ℕ) → Bytes s → Bytes (drop n s)
+bytes-drop zero s h = h
+bytes-drop (suc n) [] h = h
+bytes-drop (suc n) (b ∷ s) h = bytes-drop n s (h .1)
+
+-- the bytes that r used for x are those of x, and Q holds of x
+pub record Took {A : Type 0} (w : A → List ℕ) (Q : A → Type 0) (s : List ℕ) (x : A) (n : ℕ) : Type 0 where
+  pub same : w x ≡ take n s
+  pub fact : Q x
+
+pub record Canon {A : Type 0} (r : Reader A) (w : A → List ℕ) (Q : A → Type 0) : Type 0 where
+  pub law : (p : ℕ) (s : List ℕ) (x : A) (n : ℕ) → Bytes s → r p s ≡ ok x n → Took w Q s x n
+
+abbrev Any : {A : Type 0} → A → Type 0
+Any x = Unit {0}
+
+canon-give : {A : Type 0} (x : A) (w : A → List ℕ) → w x ≡ [] → Canon (give x) w (λ y. y ≡ x)
+unfolding give
+canon-give x w e = record { law = λ p s y n b h. let z : 0 ≡ n = cc in let v : x ≡ y = cc in record { same = rw (← v, ← z) e; fact = sym v } }
+
+canon-primitive : {A : Type 0} (r : Reader A) (w : A → List ℕ) (Q : A → Type 0) → Canon r w Q → Canon (primitive r) w Q
+canon-primitive r w Q c = record { law = λ p s x n b h. c .law p s x n b (primitive-inv r p s x n h) }
+
+canon-then : {A B : Type 0} (r : Reader A) (f : A → Reader B) (v : A → List ℕ) (Q : A → Type 0) (u : A → B → List ℕ) (w : B → List ℕ) (P : A → B → Type 0) (R : B → Type 0) →
+    Canon r v Q → ((x : A) → Q x → Canon (f x) (u x) (P x)) → ((x : A) (y : B) → Q x → P x y → (w y ≡ v x ++ u x y) × R y) → Canon (then r f) w R
+canon-then r f v Q u w P R c d g = record {
+  law = λ p s y m b h.
+      let a = split r f p s y m h in
+      let i = c .law p s (a .x) (a .n) b (a .first) in
+      let j = d (a .x) (i .fact) .law (p + a .n) (drop (a .n) s) y (a .k) (bytes-drop (a .n) s b) (a .second) in
+      let e = g (a .x) y (i .fact) (j .fact) in
+      record { same = e .0 ∙ (λ t. i .same t ++ j .same t) ∙ sym (take-add (a .n) (a .k) s) ∙ ap (λ (z : ℕ). take z s) (sym (a .sum)); fact = e .1 };
+}
+
+canon-pair : {A B : Type 0} (r : Reader A) (q : Reader B) (v : A → List ℕ) (u : B → List ℕ) → Canon r v Any → Canon q u Any → Canon (pair r q) (λ z. v (z .0) ++ u (z .1)) Any
+canon-pair r q v u c d = record {
+  law = λ p s z m b h.
+      let a = pair-inv r q p s z m h in
+      let i = c .law p s (z .0) (a .n) b (a .first) .same in
+      let j = d .law (p + a .n) (drop (a .n) s) (z .1) (a .k) (bytes-drop (a .n) s b) (a .second) .same in
+      record { same = (λ t. i t ++ j t) ∙ sym (take-add (a .n) (a .k) s) ∙ ap (λ (k : ℕ). take k s) (sym (a .sum)); fact = tt };
+}
+
+-- the bytes of a big-endian number
+bytes-be : (k a : ℕ) (s : List ℕ) → Bytes s → bytes (k + length s) (be a s) ≡ bytes k a ++ s
+unfolding bytes
+bytes-be k a [] h = ap (λ (m : ℕ). bytes m a) (add-zero k) ∙ sym (append-nil (bytes k a))
+bytes-be k a (b ∷ s) h =
+    let i : b < 256 = h .0 in
+    let d : (a * 256 + b) / 256 ≡ a = omega arith in
+    let m : (a * 256 + b) % 256 ≡ b = omega arith in
+    ap (λ (n : ℕ). bytes n (be (a * 256 + b) s)) (add-suc k (length s) ∙ sym (suc-add k (length s)))
+    ∙ bytes-be (suc k) (a * 256 + b) s (h .1)
+    ∙ (λ t. (bytes k (d t) ++ (m t ∷ [])) ++ s)
+    ∙ append-assoc (bytes k a) (b ∷ []) s
+
+pub bytes-take : (n : ℕ) (s : List ℕ) → Bytes s → Bytes (take n s)
+bytes-take zero s h = tt
+bytes-take (suc n) [] h = tt
+bytes-take (suc n) (b ∷ s) h = (h .0, bytes-take n s (h .1))
+
+-- k bytes are below 256 ^ k
+be-small : (a : ℕ) (s : List ℕ) (k : ℕ) → Bytes s → a < 256 ^ k → be a s < 256 ^ (k + length s)
+be-small a [] k b h = subst (λ (n : ℕ). a < 256 ^ n) (sym (add-zero k)) h
+be-small a (c ∷ s) k b h =
+    let l = b .0 in
+    let i : a * 256 + c < 256 ^ suc k = omega (arith, pow-suc 256 k) in
+    subst (λ (n : ℕ). be (a * 256 + c) s < 256 ^ n) (suc-add k (length s) ∙ sym (add-suc k (length s))) (be-small (a * 256 + c) s (suc k) (b .1) i)
+
+pub canon-int : (k : ℕ) → Canon (int k) (bytes k) (λ n. n < 256 ^ k)
+unfolding bytes
+canon-int k = record {
+  law = λ p s x n b h.
+      let a = int-inv k p s x n h in
+      let l : length (take k s) ≡ k = length-take-le k s (a .fits) in
+      let f : bytes k (be 0 (take k s)) ≡ take k s = rw (zero-add, l) at (bytes-be 0 0 (take k s) (bytes-take k s b)) in
+      let g : be 0 (take k s) < 256 ^ k = rw (zero-add, l) at (be-small 0 (take k s) 0 (bytes-take k s b) (omega arith)) in
+      record { same = ap (bytes k) (a .is) ∙ f ∙ ap (λ (m : ℕ). take m s) (sym (a .used)); fact = rw (a .is) g };
+}
+
+canon-weak : {A : Type 0} (r : Reader A) (w : A → List ℕ) (Q P : A → Type 0) → Canon r w Q → ((x : A) → Q x → P x) → Canon r w P
+canon-weak r w Q P c f = record { law = λ p s x n b h. let a = c .law p s x n b h in record { same = a .same; fact = f x (a .fact) } }
+
+canon-fail : {A : Type 0} (e : ℕ) (w : A → List ℕ) (Q : A → Type 0) → Canon (fail e) w Q
+unfolding fail
+canon-fail e w Q = record { law = λ p s x n b h. not-ok h }
+
+canon-pick : {A : Type 0} (b : Bool) (r q : Reader A) (w : A → List ℕ) (Q : A → Type 0) → (b ≡ true → Canon r w Q) → (b ≡ false → Canon q w Q) → Canon (pick b r q) w Q
+unfolding pick
+canon-pick true r q w Q f g = f refl
+canon-pick false r q w Q f g = g refl
+
+canon-cell : (w : Width) → Canon (cell w) (bytes (size w)) Any
+unfolding cell
+canon-cell w =
+    canon-then (int (size w)) _ (bytes (size w)) (λ n. n < 256 ^ size w) (λ n c. []) _ (λ n c. c ≡ extend w n) Any (canon-int (size w)) (λ n u. canon-give (extend w n) (λ c. []) refl)
+    (λ n c u e. (ap (bytes (size w)) e ∙ extend-bytes w n (let p = powers w in omega (arith, p .power)) ∙ sym (append-nil (bytes (size w) n)), tt))
+
+canon-many : {A : Type 0} (r : Reader A) (w : A → List ℕ) → Canon r w Any → (n : ℕ) → Canon (many n r) (each w) (λ xs. length xs ≡ n)
+unfolding each
+canon-many r w c n = record { law = λ p s xs m b h. record { same = go n p s xs m b h; fact = length-many r n p s xs m h } }
+  where
+    go : (n p : ℕ) (s : List ℕ) (xs : List _) (m : ℕ) → Bytes s → many n r p s ≡ ok xs m → each w xs ≡ take m s
+    go zero p s xs m b h = let d = many-none r p s in let y : xs ≡ [] = cc in let z : m ≡ 0 = cc in rw (y, z)
+    go (suc n) p s xs m b h =
+        let a = many-uncons r n p s xs m h in
+        let i = c .law p s (a .x) (a .n) b (a .first) .same in
+        let j = go n (p + a .n) (drop (a .n) s) (a .xs) (a .m) (bytes-drop (a .n) s b) (a .rest) in
+        ap (each w) (a .all) ∙ (λ t. i t ++ j t) ∙ sym (take-add (a .n) (a .m) s) ∙ ap (λ (k : ℕ). take k s) (sym (a .sum))
+
+-- ---- lengths and counts
+
+-- what a length reader gives, written again
+lenBytes : Size → ℕ → List ℕ
+lenBytes z zero = nullBytes z
+lenBytes z (suc n) = lengthBytes z n
+
+len-one : (z : Size) (n : ℕ) → lenBytes z (n + 1) ≡ lengthBytes z n
+unfolding lenBytes
+len-one z n = ap (lenBytes z) (add-one n)
+
+len-null : (z : Size) → lenBytes z 0 ≡ nullBytes z
+unfolding lenBytes
+len-null z = refl
+
+canon-fixed : (w : Width) (m : Null) (v : Reader ℕ) → Canon (lengthOf v (fixed w m)) (lenBytes (fixed w m)) Any
+unfolding lengthOf lengthBytes nullBytes
+canon-fixed w m v =
+    let f = lenBytes (fixed w m) in
+    canon-then (int (size w)) _ (bytes (size w)) (λ n. n < 256 ^ size w) (λ x n. []) f (λ x n. f n ≡ bytes (size w) x) Any (canon-int (size w))
+    (λ x u. canon-pick _ _ _ _ _
+    (λ e. canon-weak _ _ (λ n. n ≡ x + 1) _ (canon-give (x + 1) (λ n. []) refl) (λ n d. ap f d ∙ len-one (fixed w m) x))
+    (λ e. canon-pick _ _ _ _ _
+    (λ d. canon-weak _ _ (λ n. n ≡ 0) _ (canon-give 0 (λ n. []) refl) (λ n g. ap f g ∙ len-null (fixed w m) ∙ ap (bytes (size w)) (sym (eqb→eq x (2 ^ bits w - 1) (subst T (sym d) tt)))))
+    (λ d. canon-fail _ _ _)))
+    (λ x n u e. (e ∙ sym (append-nil (bytes (size w) x)), tt))
+
+canon-length : (v : Reader ℕ) → Canon v unsignedBytes Any → (z : Size) → Canon (lengthOf v z) (lenBytes z) Any
+canon-length v c (fixed w m) = canon-fixed w m v
+canon-length v c (compact m) = unfold lengthOf in (record { law = λ p s x n b h. let a = c .law p s x n b h in record { same = same-bytes x ∙ a .same; fact = tt } })
+  where
+    same-bytes : (x : ℕ) → lenBytes (compact m) x ≡ unsignedBytes x
+    same-bytes zero = unfold lenBytes nullBytes in refl
+    same-bytes (suc x) = unfold lenBytes lengthBytes in ap unsignedBytes (add-one x)
+canon-length v c plain =
+    unfold lengthOf in
+    (canon-then v _ unsignedBytes Any (λ x n. []) (lenBytes plain) (λ x n. n ≡ x + 1) Any c (λ x u. canon-give (x + 1) (λ n. []) refl)
+    (λ x n u e. (ap (lenBytes plain) e ∙ len-one plain x ∙ (unfold lengthBytes in (sym (append-nil (unsignedBytes x)))), tt)))
+
+len-some : (z : Size) (m l : ℕ) → eqb m 0 ≡ false → l ≡ m - 1 → lengthBytes z l ≡ lenBytes z m
+unfolding lenBytes
+len-some z zero l e h = let z : _≡_ {A = ℕ} 0 1 = cc in absurd (omega arith)
+len-some z (suc m) l e h = ap (lengthBytes z) (omega arith)
+
+abbrev items : {A : Type 0} → (List A → List ℕ) → Option (List A) → List ℕ
+items w none = []
+items w (some xs) = w xs
+
+-- null is no value, and so it is not allowed
+canon-sized : {A : Type 0} (b a : Bool) (e : ℕ) (f : Size) (len : Reader ℕ) (r : ℕ → Reader (List A)) (w : List A → List ℕ) → (b ≡ false → a ≡ false) → Canon len (lenBytes f) Any → ((n : ℕ) → Canon (r n) w (λ xs. length xs ≡ n)) →
+    Canon (sized b a e len r) (sizedBytes b f w) Any
+unfolding sized sizedBytes lenBytes
+canon-sized {A} true a e f len r w no-null c d =
+    canon-then (checked true e len) _ (lenBytes f) Any (λ m o. items w o) (sizedBytes true f w) (λ m o. sizedBytes true f w o ≡ lenBytes f m ++ items w o) Any
+    (record { law = λ p s x n b h. c .law p s x n b (checked-inv true e len p s x n h) })
+    (λ m u. canon-pick _ _ _ _ _
+    (λ t. canon-weak _ _ (λ o. o ≡ none) _ (canon-give none (items w) refl)
+    (λ o g. ap (sizedBytes true f w) g ∙ ap (lenBytes f) (sym (eqb→eq m 0 (subst T (sym t) tt))) ∙ sym (append-nil (lenBytes f m)) ∙ ap (λ (o : Option (List A)). lenBytes f m ++ items w o) (sym g)))
+    (λ t. canon-then (r (m - 1)) _ w (λ xs. length xs ≡ m - 1) (λ xs o. []) (items w) (λ xs o. o ≡ some xs) _ (d (m - 1))
+    (λ xs l. canon-give (some xs) (λ o. []) refl)
+    (λ xs o l g. (
+      ap (items w) g ∙ sym (append-nil (w xs)),
+      ap (sizedBytes true f w) g ∙ ap (λ (z : List ℕ). z ++ w xs) (len-some f m (length xs) t l) ∙ ap (λ (o : Option (List A)). lenBytes f m ++ items w o) (sym g),
+    ))))
+    (λ m o u g. (g, tt))
+canon-sized {A} false a e f len r w no-null c d = subst (λ (t : Bool). Canon (sized false t e len r) (sizedBytes false f w) Any) (sym (no-null refl))
+    (canon-then (checked false e len) _ (lenBytes f) (λ m. eqb m 0 ≡ false) (λ m xs. w xs) (sizedBytes false f w) (λ m xs. length xs ≡ m - 1) Any
+    (record { law = λ p s x n b h. let a = c .law p s x n b (checked-inv false e len p s x n h) in record { same = a .same; fact = checked-some e len p s x n h } })
+    (λ m u. d (m - 1))
+    (λ m xs t l. (ap (λ (z : List ℕ). z ++ w xs) (len-some f m (length xs) t l), tt)))
+
+null-empty : (m : Null) → isKept m ≡ false → admitsNull true m ≡ false
+null-empty never e = refl
+null-empty kept e = let z : _≡_ {A = ℕ} 0 1 = cc in absurd (omega arith)
+null-empty empty e = refl
+
+none-empty : (z : Size) → keeps z ≡ false → admits true z ≡ false
+none-empty (fixed w m) e = null-empty m e
+none-empty (compact m) e = null-empty m e
+none-empty plain e = refl
+
+-- ---- for every shape
+
+module _ (v : Reader ℕ) (fl : Reader Bool) (cv : Canon v unsignedBytes Any) (cf : Canon fl flagBytes Any) where
+  abbrev pub strictly : Codec
+  strictly = record { Text = List ℕ; make = λ p b. b; varint = v; flag = fl; whole = true }
+
+  canon-part : (t : List ℕ → Bool) (n : ℕ) → Canon (here (λ p. then (raw n) (λ b. pick (t b) (give b) (fail 7)))) (λ b. b) (λ b. length b ≡ n)
+  canon-part t n = record {
+    law = λ p s x m b h.
+        let d = piece-inv t (λ p b. b) n p s x m h in
+        let e : x ≡ take n s = sym (d .is) ∙ d .is-raw .is in
+        record { same = e ∙ ap (λ (k : ℕ). take k s) (sym (d .is-raw .used)); fact = ap length e ∙ length-take-le n s (d .is-raw .fits) };
+  }
+
+  canon-basic : (k : Basic) → Canon (readBasic strictly k) (writeBasic k) Any
+  unfolding readBasic readBlob readText writeBasic pick
+  canon-basic (number w) = canon-cell w
+  canon-basic boolean = cf
+  canon-basic level = canon-cell w8
+  canon-basic natural = cv
+  canon-basic (text z) = canon-primitive _ _ _ (canon-sized (keeps z) _ _ z _ _ (λ y. y) (none-empty z) (canon-length v cv z) (canon-part utf8))
+  canon-basic (blob z) = canon-primitive _ _ _ (canon-sized (keeps z) _ _ z _ _ (λ y. y) (none-empty z) (canon-length v cv z) (canon-part (λ b. true)))
+  canon-basic (optional d k) = canon-basic k
+
+  pub canon-read : (l : Shape) → Canon (read strictly l) (write l) Any
+  unfolding read write
+  canon-read end = canon-weak _ _ (λ y. y ≡ tt) _ (canon-give tt (write end) refl) (λ y e. tt)
+  canon-read (field k r) = canon-pair _ _ (writeBasic k) (write r) (canon-basic k) (canon-read r)
+  canon-read (absent k r) = canon-read r
+  canon-read (array z t i r) = canon-pair _ _ _ (write r) (canon-sized (keeps z) _ _ z _ _ (each (write i)) (none-empty z) (canon-length v cv z) (canon-many _ (write i) (canon-read i))) (canon-read r)
+  canon-read (lacking z t i r) = canon-read r
+
+-- ---- readers that take less
 
 pub record Refines {A : Type 0} (r q : Reader A) : Type 0 where
   pub law : (p : ℕ) (s : List ℕ) (x : A) (n : ℕ) → r p s ≡ ok x n → q p s ≡ ok x n

@@ -12,7 +12,7 @@ use mir.Val.{Fits}
 use Rattle.layout.specs.Reading.{Reader, Refusal, Res, bad, because, give, next, ok, then}
 use Rattle.layout.specs.Primitives.{Width, cell, int, integer, signed, size, w64}
 use Rattle.layout.specs.Answers.{alone}
-use Rattle.layout.proofs.Canon.{Bytes, canon-int}
+use Rattle.layout.proofs.Strict.{Bytes, canon-int}
 use Rattle.layout.proofs.Cells.{extend, extend-shows, powers}
 use Rattle.layout.proofs.Link.{over}
 use Rattle.layout.proofs.Tests.{le-false, le-true}

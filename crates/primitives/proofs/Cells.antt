@@ -13,7 +13,7 @@ use mir.Syntax as Mir
 use mir.Val.{Fits}
 use Rattle.layout.specs.Reading.{Refusal, Res, bad, because, give, ok}
 use Rattle.layout.specs.Primitives.{Width, be, bits, cell, flag, int, size, w64}
-use Rattle.layout.proofs.Canon.{Bytes, canon-int}
+use Rattle.layout.proofs.Strict.{Bytes, canon-int}
 use Rattle.layout.proofs.Cells.{above, extend, extend-high, extend-low, powers}
 use Rattle.layout.proofs.Tests.{of-ge, of-lt}
 use Rattle.layout.proofs.Steps.{int-bad, int-ok, then-bad, then-ok}
