@@ -1,5 +1,5 @@
 -- The version that is agreed on is the highest that both sides know; −1 says that there is none.
-use mathlib.Core.Bool.{Bool, _&&_, and-eq-true-iff, cond, false, true, true≢false}
+use mathlib.Core.Bool.{_&&_, false, true, true≢false}
 use mathlib.Core.Logic.{_↔_}
 use mathlib.Core.Path.{_∙_, _≡_, refl, sym}
 use Prim.Native.Nat.{_-_, _<_, _^_, _≤_, min, suc, ℕ}
@@ -10,7 +10,8 @@ use lib.Signed.{_≤ℤ_}
 use borrow.Author.Tests.{leb-false}
 use Rattle.layout.specs.Primitives.{minus, signed, w64}
 use Rattle.layout.specs.Agreement.{highest, negative, reaches, smaller}
-use Rattle.layout.proofs.Tests.{le-true, lt-false, lt-true, of-le}
+use Rattle.layout.proofs.Proper.{both}
+use Rattle.layout.proofs.Tests.{by-test, le-true, lt-false, lt-true, of-le}
 
 -- the number that a cell shows
 abbrev pub shown : ℕ → ℤ
@@ -39,19 +40,13 @@ shown-neg c e = rw (lt-false c (2 ^ 63) (of-le (2 ^ 63) c e))
 
 pub reaches-is : (v c : ℕ) → (reaches v c ≡ true) ↔ (shown c ≤ℤ pos v)
 unfolding reaches
-reaches-is v c = go (negative c) refl
-  where
-    go : (n : Bool) → negative c ≡ n → (cond n true (leb c v) ≡ true) ↔ (shown c ≤ℤ pos v)
-    go true e = (λ h. rw (shown-neg c e) (record { le = tt }), λ h. refl)
-    go false e = rw (shown-pos c e) (λ h. record { le = le→leb c v (of-le c v h) }, λ h. le-true c v (leb→le c v (h .le)))
+reaches-is v c =
+    by-test (negative c) (λ e. rw (e, shown-neg c e) (λ h. record { le = tt }, λ h. refl))
+    (λ e. rw (e, shown-pos c e) (λ h. record { le = le→leb c v (of-le c v h) }, λ h. le-true c v (leb→le c v (h .le))))
 
 reaches-up : (u v c : ℕ) → u ≤ v → reaches u c ≡ true → reaches v c ≡ true
 unfolding reaches
-reaches-up u v c h e = go (negative c) e
-  where
-    go : (n : Bool) → cond n true (leb c u) ≡ true → cond n true (leb c v) ≡ true
-    go true e = refl
-    go false e = let g = of-le c u e in le-true c v (omega arith)
+reaches-up u v c h e = by-test (negative c) (λ d. rw d) (λ d. let g = of-le c u (rw d at e) in rw d (le-true c v (omega arith)))
 
 reached-is : (v c : ℕ) → negative c ≡ false → (pos v ≤ℤ shown c) ↔ (v ≤ c)
 reached-is v c e = rw (shown-pos c e) (λ h. leb→le v c (h .le), λ h. record { le = le→leb v c h })
@@ -61,24 +56,20 @@ unreached v c e = rw (shown-neg c e) (λ h. h .le)
 
 smaller-is : (a b : ℕ) → smaller a b ≡ min a b
 unfolding smaller
-smaller-is a b = go (leb a b) refl
-  where
-    go : (t : Bool) → leb a b ≡ t → cond t a b ≡ min a b
-    go true e = let h = of-le a b e in omega arith
-    go false e = let h = leb-false a b e in omega arith
+smaller-is a b = by-test (leb a b) (λ e. let h = of-le a b e in rw e (omega arith)) (λ e. let h = leb-false a b e in rw e (omega arith))
 
 -- ---- the highest common version
 
 pub highest-is : (low high : ℕ) (b : ℕ × ℕ) → Highest low high b (highest low high b)
 unfolding highest
-highest-is low high b = go (negative (b .1)) refl
+highest-is low high b = by-test (negative (b .1)) (λ e. rw e (lacking (λ u k. unreached u (b .1) e (k .theirs-high)))) (λ e. rw e (by-test (leb low v && reaches v (b .0)) (λ d. rw d (there e d)) (λ d. rw d (none e d))))
   where
     v : ℕ
     v = smaller high (b .1)
 
-    fit : negative (b .1) ≡ false → (t : Bool) → (leb low v && reaches v (b .0)) ≡ t → Highest low high b (cond t v minus)
-    fit e true d =
-        let a = and-eq-true-iff (leb low v) (reaches v (b .0)) .0 d in
+    there : negative (b .1) ≡ false → (leb low v && reaches v (b .0)) ≡ true → Highest low high b v
+    there e d =
+        let a = both (leb low v) (reaches v (b .0)) d in
         let m = smaller-is high (b .1) in
         most v
         (record {
@@ -88,16 +79,13 @@ highest-is low high b = go (negative (b .1)) refl
           theirs-high = reached-is v (b .1) e .1 (omega arith);
         })
         (λ u k. let h = reached-is u (b .1) e .0 (k .theirs-high) in omega arith)
-    fit e false d = lacking (λ u k.
+
+    none : negative (b .1) ≡ false → (leb low v && reaches v (b .0)) ≡ false → Highest low high b minus
+    none e d = lacking (λ u k.
         let m = smaller-is high (b .1) in
         let h = reached-is u (b .1) e .0 (k .theirs-high) in
-        let l = le-true low v (omega arith) in
         let r = reaches-up u v (b .0) (omega arith) (reaches-is u (b .0) .1 (k .theirs-low)) in
-        true≢false (sym (and-eq-true-iff (leb low v) (reaches v (b .0)) .1 (l, r)) ∙ d))
-
-    go : (n : Bool) → negative (b .1) ≡ n → Highest low high b (cond n minus (cond (leb low v && reaches v (b .0)) v minus))
-    go true e = lacking (λ u k. unreached u (b .1) e (k .theirs-high))
-    go false e = fit e (leb low v && reaches v (b .0)) refl
+        true≢false (sym (rw (le-true low v (omega arith), r)) ∙ d))
 
 -- −1 is no version of ours: so it says that there is none
 pub highest-lacks : (low high : ℕ) (b : ℕ × ℕ) → high < minus → (highest low high b ≡ minus) ↔ ((v : ℕ) → ¬ Common low high b v)

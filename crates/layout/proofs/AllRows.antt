@@ -1,7 +1,7 @@
 -- Every row comes back. The counts of the tables that were lent add up, and so do those of the tables that a read of the written bytes fills; a row that comes back asks for as many rows as
 -- the one that was lent. So table by table, each after those whose rows ask for its rows, as many rows come back as were lent, and all of them settled. For every shape.
 use mathlib.Core.Bool.{Bool, _&&_, cond, false, not, true}
-use mathlib.Core.List.{List, [], _∷_, map}
+use mathlib.Core.List.{List, [], map}
 use mathlib.Core.Path.{_∙_, _≡_, ap, refl, sym}
 use Prim.Native.Nat.{_+_, _<_, _≤_, suc, zero, ℕ}
 use native.Mathlib.Nat.{zero-add}
@@ -23,7 +23,7 @@ use Rattle.layout.proofs.Good.{Kinds, NoNull, Writable, read-good}
 use Rattle.layout.proofs.Proper.{Owes, all-from, avoids, avoids-free, both, is-not, owed, proper, width-same, widthAt}
 use Rattle.layout.proofs.SettledRows.{own-settled, rows-settled, tables-read}
 use Rattle.layout.proofs.Sums.{sum-eq, sum-map, sum-same, sum-zero}
-use Rattle.layout.proofs.Tests.{of-eq, of-lt}
+use Rattle.layout.proofs.Tests.{by-test, of-eq, of-lt}
 use Rattle.layout.proofs.Trip.{Laid}
 
 -- ---- what a row asks of a table, told from what is shown of the row
@@ -55,11 +55,7 @@ shown-pieces b (optional d k) cs = ap suc (shown-pieces b k (drop 1 cs))
 
 back-pieces : (b : List ℕ) (t : Bool) (cs : List ℕ) → length (settledSpan b t cs) ≡ cond t 2 1
 unfolding settledSpan
-back-pieces b true cs = go (eqb (getD cs 0 0) 2)
-  where
-    go : (c : Bool) → length (cond c (shownSpan b true cs) (num 1 ∷ part [] ∷ [])) ≡ 2
-    go true = span-pieces b true cs
-    go false = refl
+back-pieces b true cs = by-test (eqb (getD cs 0 0) 2) (λ e. rw e (span-pieces b true cs)) (λ e. rw e)
 back-pieces b false cs = span-pieces b false cs
 
 settled-pieces : (b : List ℕ) (k : Basic) (cs : List ℕ) → length (settledCells b k cs) ≡ pieces k
@@ -127,12 +123,7 @@ asked-shown b t (lacking z u i r) cs h =
 
 count-settled : (z : Size) (c : ℕ) → count (settledCount z c) ≡ count c
 unfolding settledCount count
-count-settled z c = go (keeps z) (eqb c minus) refl
-  where
-    go : (b e : Bool) → eqb c minus ≡ e → count (cond b c (cond e 0 c)) ≡ count c
-    go true e d = refl
-    go false true d = rw d
-    go false false d = refl
+count-settled z c = by-test (keeps z) (λ k. rw k) (λ k. rw k (by-test (eqb c minus) (λ e. rw e) (λ e. rw (e, e))))
 
 asked-settled : (b : List ℕ) (t : ℕ) (l : Shape) (cs : List ℕ) → unlacked t l ≡ true → askedOf t l (settledRow b l cs) ≡ asked t l cs
 unfolding askedOf settledRow asked unlacked
@@ -206,11 +197,11 @@ module _ (F : ℕ → Bool) (n : ℕ) (l : Shape) (lent bs : List ℕ) (st su : 
 
   asks : (t u : ℕ) → (unlacked t (kindOf u l) && cond (mute t (kindOf u l)) true (ltb u t && F u)) ≡ true → (u < t → F u ≡ true → Same u) →
       sum (asked t (kindOf u l)) (rowsAt l su u) ≡ sum (asked t (kindOf u l)) (rowsAt l st u)
-  asks t u h before = let a = both (unlacked t (kindOf u l)) _ h in go (a .0) (mute t (kindOf u l)) refl (a .1)
-    where
-      go : unlacked t (kindOf u l) ≡ true → (c : Bool) → mute t (kindOf u l) ≡ c → cond c true (ltb u t && F u) ≡ true → sum (asked t (kindOf u l)) (rowsAt l su u) ≡ sum (asked t (kindOf u l)) (rowsAt l st u)
-      go k true e d = sum-zero (asked t (kindOf u l)) (λ r. mute-asks t (kindOf u l) r e) (rowsAt l su u) ∙ sym (sum-zero (asked t (kindOf u l)) (λ r. mute-asks t (kindOf u l) r e) (rowsAt l st u))
-      go k false e d = let b = both (ltb u t) (F u) d in asks-same t u k (before (of-lt u t (b .0)) (b .1))
+  asks t u h before =
+      let K = kindOf u l in
+      let a = both (unlacked t K) _ h in
+      by-test (mute t K) (λ e. sum-zero (asked t K) (λ r. mute-asks t K r e) (rowsAt l su u) ∙ sym (sum-zero (asked t K) (λ r. mute-asks t K r e) (rowsAt l st u)))
+      (λ e. let b = both (ltb u t) (F u) (rw e at (a .1)) in asks-same t u (a .0) (before (of-lt u t (b .0)) (b .1)))
 
   as-many : (t : ℕ) → 1 ≤ t → t ≤ n → F t ≡ true → ((u : ℕ) → 1 ≤ u → u ≤ n → u < t → F u ≡ true → Same u) → length (rowsAt l su t) ≡ length (rowsAt l st t)
   unfolding follows

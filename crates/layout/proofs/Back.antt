@@ -19,7 +19,7 @@ use Rattle.layout.specs.Rows.{Basic, BasicValue, Shape, Value, absent, a
 use Rattle.layout.specs.Read.{byBytes, read, readBasic, readBlob, readText}
 use Rattle.layout.specs.Answers.{most}
 use Rattle.layout.specs.Write.{basicFault, each, fault, firstOf, or, sizedFault, tooLong, unless, write, writeBasic}
-use Rattle.layout.proofs.Tests.{lt-false, lt-true, of-eq, of-le, of-lt, of-ne, one-more}
+use Rattle.layout.proofs.Tests.{by-test, lt-false, lt-true, of-eq, of-le, of-lt, of-ne, one-more}
 use Rattle.layout.proofs.Cells.{extend, extend-bytes, pattern, powers}
 use Rattle.layout.proofs.Local.{Local, local-fail, local-give, local-pick, local-primitive, local-then, local-unsigned, raw-ok}
 use Rattle.layout.proofs.Parts.{Eating, Eats}
@@ -114,19 +114,15 @@ back-shortest zero m a n h =
     let f : a + n % 2 * m ≡ a + n * m = rw e in
     back-is _ _ _ _ f (back-last (int 1) _ (bytes 1 n) n _ (back-int 1 n (omega arith))
     (back-true _ _ _ _ _ (lt-true n 128 (omega arith)) (back-give (a + n % 2 * m))))
-back-shortest (suc k) m a n h = go (λ i. back-shortest k (m * 128) _ (n / 128) i) (ltb n 128) refl
-  where
-    go : (n / 128 < 2 * 128 ^ k → Back (groups k (m * 128) (a + (128 + n % 128) % 128 * m)) (shortest k (n / 128)) ((a + (128 + n % 128) % 128 * m) + n / 128 * (m * 128))) →
-        (b : Bool) → ltb n 128 ≡ b → Back (groups (suc k) m a) (cond b (bytes 1 n) (bytes 1 (128 + n % 128) ++ shortest k (n / 128))) (a + n * m)
-    go rec true e =
-        let i = of-lt n 128 e in
-        back-last (int 1) _ (bytes 1 n) n (a + n * m) (back-int 1 n (omega arith))
-        (back-true _ _ _ _ _ e (back-give (a + n * m)))
-    go rec false e =
-        let c = 128 + n % 128 in
-        let i : n / 128 < 2 * 128 ^ k = omega (arith, pow-suc 128 k) in
-        back-is _ _ _ _ (digits a n m) (back-then (int 1) _ (bytes 1 c) (shortest k (n / 128)) c _ (back-int 1 c (omega arith))
-        (back-false _ _ _ _ _ (lt-false c 128 (omega arith)) (rec i)))
+back-shortest (suc k) m a n h =
+    by-test (ltb n 128)
+    (λ e. let i = of-lt n 128 e in rw e (back-last (int 1) _ (bytes 1 n) n (a + n * m) (back-int 1 n (omega arith)) (back-true _ _ _ _ _ e (back-give (a + n * m)))))
+    (λ e.
+    let c = 128 + n % 128 in
+    rw e
+    (back-is _ _ _ _ (digits a n m) (back-then (int 1) _ (bytes 1 c) (shortest k (n / 128)) c _ (back-int 1 c (omega arith))
+    (back-false _ _ _ _ _ (lt-false c 128 (omega arith)) (back-shortest k (m * 128) _ (n / 128) (omega (arith, pow-suc 128 k))))))
+    )
 
 pub back-unsigned : (n : ℕ) → n < 2 ^ 64 → Back unsigned (unsignedBytes n) n
 unfolding unsigned unsignedBytes
@@ -242,11 +238,9 @@ back-sized false a e z r w g k few h xs o m =
 shortest-long : (k n : ℕ) → 1 ≤ length (shortest k n)
 unfolding shortest
 shortest-long zero n = omega (arith, length-bytes 1 n)
-shortest-long (suc k) n = go (ltb n 128)
-  where
-    go : (b : Bool) → 1 ≤ length (cond b (bytes 1 n) (bytes 1 (128 + n % 128) ++ shortest k (n / 128)))
-    go true = omega (arith, length-bytes 1 n)
-    go false = omega (arith, length-append (bytes 1 (128 + n % 128)) (shortest k (n / 128)), length-bytes 1 (128 + n % 128))
+shortest-long (suc k) n =
+    by-test (ltb n 128) (λ e. rw e (omega (arith, length-bytes 1 n)))
+    (λ e. rw e (omega (arith, length-append (bytes 1 (128 + n % 128)) (shortest k (n / 128)), length-bytes 1 (128 + n % 128))))
 
 width-long : (w : Width) (n : ℕ) → 1 ≤ length (bytes (size w) n)
 width-long w8 n = omega (arith, length-bytes 1 n)
@@ -349,11 +343,7 @@ there-and-back (negsuc n) =
 
 pub back-and-there : (n : ℕ) → zigzag (unzigzag n) ≡ n
 unfolding unzigzag zigzag
-back-and-there n = go (eqb (n % 2) 0) refl
-  where
-    go : (b : Bool) → eqb (n % 2) 0 ≡ b → zigzag (cond b (pos (n / 2)) (negsuc (n / 2))) ≡ n
-    go true e = let h : n % 2 ≡ 0 = of-eq _ _ e in omega arith
-    go false e = let h : n % 2 ≢ 0 = of-ne _ _ e in omega arith
+back-and-there n = by-test (eqb (n % 2) 0) (λ e. let h : n % 2 ≡ 0 = of-eq _ _ e in rw e (omega arith)) (λ e. let h : n % 2 ≢ 0 = of-ne _ _ e in rw e (omega arith))
 
 pub back-varlong : (z : ℤ) → zigzag z < 2 ^ 64 → Back varlong (zigzagBytes z) z
 unfolding varlong zigzagBytes

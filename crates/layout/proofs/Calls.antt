@@ -1,6 +1,6 @@
 -- The laws at the level of calls, for every message: what is refused before the bytes are looked at, that nothing behind the used bytes has a part,
 -- what tables and output hold after a refusal, and that what a write accepts a whole read accepts, with tables that mean the same.
-use mathlib.Core.Bool.{Bool, cond, false, true}
+use mathlib.Core.Bool.{Bool, cond, false, true, true≢false}
 use mathlib.Core.List.{List, [], _++_, _∷_}
 use mathlib.Core.Option.{Option, none, some}
 use mathlib.Core.Path.{_∙_, _≡_, ap, refl, subst, sym}
@@ -20,10 +20,10 @@ use Rattle.layout.specs.Answers.{Answer, Message, accepted, body, ended,
 use Rattle.layout.proofs.Contents.{Holds, rows-needed, rows-wide, rowsIn, tables-hold}
 use Rattle.layout.proofs.Every.{Every}
 use Rattle.layout.proofs.Link.{keep, link, over, under}
-use Rattle.layout.proofs.Local.{Local, local-flag, local-read, local-unsigned, not-ok}
+use Rattle.layout.proofs.Local.{Local, local-flag, local-read, local-unsigned, not-ok, passed}
 use Rattle.layout.proofs.Parts.{shown}
 use Rattle.layout.proofs.Proper.{owed, proper, width-same, widthAt}
-use Rattle.layout.proofs.Tests.{le-false, le-true, lt-false, of-ge, of-le}
+use Rattle.layout.proofs.Tests.{by-test, le-false, le-true, lt-false, of-ge, of-le}
 use Rattle.layout.proofs.Trip.{Laid, round-trip}
 
 -- no refusal is an acceptance
@@ -54,26 +54,19 @@ pub record Seen (w : Bool) (m : Message) (v : ℤ) (s : List ℕ) (st : Tables) 
   pub reads : readRows w append (shape m version) 0 (replicate (suc (m .tables)) []) 0 s ≡ ok st n
   pub to-the-end : w ≡ true → length s ≤ n
 
+ended-inv : {A : Type 0} (w : Bool) (z : ℕ) (o : Res A) (x : A) (n : ℕ) → ended w z o ≡ ok x n → (o ≡ ok x n) × (w ≡ true → z ≤ n)
+ended-inv w z (bad c) x n e = not-ok e
+ended-inv false z (ok y k) x n e = (e, λ u. absurd (true≢false (sym u)))
+ended-inv true z (ok y k) x n e = by-test (ltb k z) (λ d. not-ok (rw d at e)) (λ d. let f : ok y k ≡ ok x n = rw d at e in let i : k ≡ n = cc in (f, λ u. rw i at (of-ge k z d)))
+
 pub seen-inv : (w : Bool) (m : Message) (v : ℤ) (s : List ℕ) (st : Tables) (n : ℕ) → seen w m v s ≡ ok st n → Seen w m v s st n
 unfolding seen
 seen-inv w m (negsuc v) s st n e = not-ok e
-seen-inv w m (pos v) s st n e = go _ _ (leb v (m .last)) refl (leb (length s) most) refl (readRows w append (shape m v) 0 (replicate (suc (m .tables)) []) 0 s) refl w refl e
-  where
-    found : v ≤ m .last → length s ≤ most → (k : ℕ) → readRows w append (shape m v) 0 (replicate (suc (m .tables)) []) 0 s ≡ ok st n → (w ≡ true → length s ≤ n) → Seen w m (pos v) s st n
-    found h g k d u = record { version = v; is = refl; known = h; short = g; reads = d; to-the-end = u }
-
-    whole : v ≤ m .last → length s ≤ most → (su : Tables) (k : ℕ) (c : Refusal) → readRows w append (shape m v) 0 (replicate (suc (m .tables)) []) 0 s ≡ ok su k → (t : Bool) → ltb k (length s) ≡ t → cond t (bad c) (ok su k) ≡ ok st n → Seen w m (pos v) s st n
-    whole h g su k c d true i e = not-ok e
-    whole h g su k c d false i e = let x : k ≡ n = cc in found h g k (d ∙ e) (λ u. subst (λ (j : ℕ). length s ≤ j) x (of-ge k (length s) i))
-
-    go : (first second : Refusal) (a : Bool) → leb v (m .last) ≡ a → (b : Bool) → leb (length s) most ≡ b → (o : Res Tables) → readRows w append (shape m v) 0 (replicate (suc (m .tables)) []) 0 s ≡ o → (q : Bool) → w ≡ q →
-        cond a (cond b (ended q (length s) o) (bad second)) (bad first) ≡ ok st n → Seen w m (pos v) s st n
-    go e₁ e₂ true h true g (ok su k) d true i e = whole (of-le _ _ h) (of-le _ _ g) su k _ d (ltb k (length s)) refl e
-    go e₁ e₂ true h true g (ok su k) d false i e = found (of-le _ _ h) (of-le _ _ g) k (d ∙ e) (λ u. absurd (let z : _≡_ {A = ℕ} 0 1 = cc in omega arith))
-    go e₁ e₂ true h true g (bad c) d true i e = not-ok e
-    go e₁ e₂ true h true g (bad c) d false i e = not-ok e
-    go e₁ e₂ true h false g o d q i e = not-ok e
-    go e₁ e₂ false h b g o d q i e = not-ok e
+seen-inv w m (pos v) s st n e =
+    let a = passed _ _ _ st n e in
+    let b = passed _ _ _ st n (a .1) in
+    let c = ended-inv w (length s) _ st n (b .1) in
+    record { version = v; is = refl; known = of-le _ _ (a .0); short = of-le _ _ (b .0); reads = c .0; to-the-end = c .1 }
 
 -- and back: a body that is read is seen
 pub seen-prefix : (m : Message) (v : ℕ) (s : List ℕ) (st : Tables) (n : ℕ) → v ≤ m .last → length s ≤ most → readRows false append (shape m v) 0 (replicate (suc (m .tables)) []) 0 s ≡ ok st n → seen false m (pos v) s ≡ ok st n
@@ -102,10 +95,9 @@ module _ (m : Message) (v : ℤ) (s : List ℕ) where
 
   -- any bytes may stand behind those used
   pub seen-local : (st : Tables) (n : ℕ) (t : List ℕ) → seen false m v s ≡ ok st n → length (take n s ++ t) ≤ most → seen false m v (take n s ++ t) ≡ ok st n
-  seen-local st n t e h = go (seen-inv false m v s st n e)
-    where
-      go : Seen false m v s st n → seen false m v (take n s ++ t) ≡ ok st n
-      go d = ap (λ (z : ℤ). seen false m z (take n s ++ t)) (d .is) ∙ seen-prefix m (d .version) (take n s ++ t) st n (d .known) h (local-rows false append (shape m (d .version)) 0 _ .law 0 s st n (d .reads) .same t)
+  seen-local st n t e h =
+      let d = seen-inv false m v s st n e in
+      ap (λ (z : ℤ). seen false m z (take n s ++ t)) (d .is) ∙ seen-prefix m (d .version) (take n s ++ t) st n (d .known) h (local-rows false append (shape m (d .version)) 0 _ .law 0 s st n (d .reads) .same t)
 
   module _ (room : Tables) where
     -- an accepted answer is a message seen, and room for it
@@ -157,10 +149,9 @@ module _ (m : Message) (v : ℤ) (s : List ℕ) where
 pub prefix-local : (m : Message) (v : ℤ) (room : Tables) (s t r : List ℕ) (n : ℕ) (after : Tables) →
     prefixRead m v room s ≡ (accepted r n, after) → length (take n s ++ t) ≤ most → prefixRead m v room (take n s ++ t) ≡ (accepted r n, after)
 unfolding prefixRead
-prefix-local m v room s t r n after e h = go (read-inv m v s room false r n after e)
-  where
-    go : Read m v s room false r n after → readAnswer false m v room (take n s ++ t) ≡ (accepted r n, after)
-    go d = read-answer m v (take n s ++ t) room false (d .st) n (seen-local m v s (d .st) n t (d .is-seen) h) (d .has-room) ∙ (λ i. (accepted (d .row-is i) n, d .after-is i))
+prefix-local m v room s t r n after e h =
+    let d = read-inv m v s room false r n after e in
+    read-answer m v (take n s ++ t) room false (d .st) n (seen-local m v s (d .st) n t (d .is-seen) h) (d .has-room) ∙ (λ i. (accepted (d .row-is i) n, d .after-is i))
 
 -- the same of replies that say answers, each answer in one way: with other bytes behind the used ones the reply and the tables are the same
 module _ {R : Type 0} (say : R → Answer × Tables) (only : (o : Answer × Tables) (x y : R) → say x ≡ o → say y ≡ o → x ≡ y) (m : Message) where
@@ -210,29 +201,21 @@ pub record Offered (f : ℕ) (b bs : List ℕ) (n : ℕ) : Type 0 where
 
 pub offered-inv : (f : ℕ) (b bs : List ℕ) (n : ℕ) → offered f b ≡ ok bs n → Offered f b bs n
 offered-inv (suc f) b bs n e = not-ok e
-offered-inv zero b bs n e = go _ (leb (length b) most) refl e
-  where
-    go : (c : Refusal) (y : Bool) → leb (length b) most ≡ y → cond y (ok b (length b)) (bad c) ≡ ok bs n → Offered 0 b bs n
-    go c true h e =
-        let z : b ≡ bs = cc in
-        let w : length b ≡ n = cc in
-        record { clean = refl; bytes-are = sym z; size-is = sym w ∙ ap length z; short = subst (λ (u : List ℕ). length u ≤ most) z (of-le _ _ h) }
-    go c false h e = not-ok e
+offered-inv zero b bs n e =
+    let a = passed (leb (length b) most) (ok b (length b)) _ bs n e in
+    let c = a .1 in
+    let z : b ≡ bs = cc in
+    let w : length b ≡ n = cc in
+    record { clean = refl; bytes-are = sym z; size-is = sym w ∙ ap length z; short = rw z at (of-le (length b) most (a .0)) }
 
 pub made-inv : (m : Message) (v : ℤ) (lent : List ℕ) (st : Tables) (bs : List ℕ) (n : ℕ) → made m v lent st ≡ ok bs n → Made m v lent st bs n
 unfolding made
 made-inv m (negsuc v) lent st bs n e = not-ok e
-made-inv m (pos v) lent st bs n e = go _ _ (leb v (m .last)) refl (good (length lent) (m .tables) (shape m 0) st) refl e
-  where
-    l : Shape
-    l = shape m v
-
-    go : (first second : Refusal) (x : Bool) → leb v (m .last) ≡ x → (g : Bool) → good (length lent) (m .tables) (shape m 0) st ≡ g → cond x (cond g (offered (fault l (meant lent st l)) (body lent st l)) (bad second)) (bad first) ≡ ok bs n → Made m (pos v) lent st bs n
-    go e₁ e₂ true h true g e =
-        let o = offered-inv (fault l (meant lent st l)) (body lent st l) bs n e in
-        record { version = v; is = refl; known = of-le _ _ h; good-tables = g; clean = o .clean; bytes-are = o .bytes-are; size-is = o .size-is; short = o .short }
-    go e₁ e₂ true h false g e = not-ok e
-    go e₁ e₂ false h y g e = not-ok e
+made-inv m (pos v) lent st bs n e =
+    let a = passed _ _ _ bs n e in
+    let b = passed _ _ _ bs n (a .1) in
+    let o = offered-inv _ _ bs n (b .1) in
+    record { version = v; is = refl; known = of-le _ _ (a .0); good-tables = b .0; clean = o .clean; bytes-are = o .bytes-are; size-is = o .size-is; short = o .short }
 
 pub record Wrote (m : Message) (v : ℤ) (lent : List ℕ) (st : Tables) (out : List ℕ) (n : ℕ) (after : List ℕ) : Type 0 where
   pub bs : List ℕ

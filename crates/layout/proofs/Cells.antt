@@ -1,5 +1,5 @@
 -- Numbers as cells: a cell shows the number that its bytes carry, holds it, and gives the same bytes back. One law for all widths.
-use mathlib.Core.Bool.{Bool, cond, false, true}
+use mathlib.Core.Bool.{true, true≢false}
 use mathlib.Core.List.{[], _++_, _∷_}
 use mathlib.Core.Path.{_∙_, _≡_, ap, refl, sym}
 use Prim.Native.Nat.{_%_, _*_, _+_, _-_, _/_, _<_, _^_, _≤_, suc, zero, ℕ}
@@ -10,7 +10,7 @@ use lib.IntN.{negsuc, pos, ℤ}
 use mir.Syntax as Mir
 use mir.Val.{ofZ, toZ}
 use Rattle.layout.specs.Primitives.{Width, bits, bytes, cellOf, holds, signed, size, w16, w32, w64, w8}
-use Rattle.layout.proofs.Tests.{le-true, lt-false, lt-true, of-ge, of-le, of-lt}
+use Rattle.layout.proofs.Tests.{by-test, le-true, lt-false, lt-true, of-ge, of-le, of-lt}
 
 -- only the lowest k bytes count
 pub bytes-mod : (k n q : ℕ) → bytes k (n + q * 256 ^ k) ≡ bytes k n
@@ -57,11 +57,7 @@ module _ (w : Width) where
 
   -- either way
   extend-case : (P : ℕ → Type 0) (n : ℕ) → n < 2 ^ bits w → (n < 2 ^ (bits w - 1) → P n) → (2 ^ (bits w - 1) ≤ n → P (n + above w * 256 ^ size w)) → P (extend n)
-  extend-case P n h low high = go (ltb n (2 ^ (bits w - 1))) refl
-    where
-      go : (b : Bool) → ltb n (2 ^ (bits w - 1)) ≡ b → P (extend n)
-      go true e = rw (extend-low n (of-lt _ _ e)) (low (of-lt _ _ e))
-      go false e = rw (extend-high n (of-ge _ _ e) h) (high (of-ge _ _ e))
+  extend-case P n h low high = by-test (ltb n (2 ^ (bits w - 1))) (λ e. let l = of-lt _ _ e in rw (extend-low n l) (low l)) (λ e. let g = of-ge _ _ e in rw (extend-high n g h) (high g))
 
   pub extend-bytes : (n : ℕ) → n < 2 ^ bits w → bytes (size w) (extend n) ≡ bytes (size w) n
   extend-bytes n h = extend-case (λ c. bytes (size w) c ≡ bytes (size w) n) n h (λ g. refl) (λ g. bytes-mod (size w) n (above w))
@@ -91,11 +87,10 @@ shows-neg n h = rw (lt-false (2 ^ 64 - suc n) 9223372036854775808 (omega arith))
 
 pub extend-shows : (w : Width) (n : ℕ) → n < 2 ^ bits w → signed w64 (extend w n) ≡ signed w n
 unfolding signed
-extend-shows w n h = go (ltb n (2 ^ (bits w - 1))) refl
-  where
-    go : (b : Bool) → ltb n (2 ^ (bits w - 1)) ≡ b → signed w64 (cellOf (cond b (pos n) (negsuc (2 ^ bits w - suc n)))) ≡ cond b (pos n) (negsuc (2 ^ bits w - suc n))
-    go true e = let i : n < 2 ^ (bits w - 1) = of-lt _ _ e in let p = powers w in shows-pos n (omega (arith, p .half, p .whole))
-    go false e = let i : 2 ^ (bits w - 1) ≤ n = of-ge _ _ e in let p = powers w in shows-neg (2 ^ bits w - suc n) (omega (arith, p .half, p .whole))
+extend-shows w n h =
+    let p = powers w in
+    by-test (ltb n (2 ^ (bits w - 1))) (λ e. let i : n < 2 ^ (bits w - 1) = of-lt _ _ e in rw e (shows-pos n (omega (arith, p .half, p .whole))))
+    (λ e. let i : 2 ^ (bits w - 1) ≤ n = of-ge _ _ e in rw e (shows-neg (2 ^ bits w - suc n) (omega (arith, p .half, p .whole))))
 
 -- the pattern in its width that a cell extends
 pub record Pattern (w : Width) (c : ℕ) : Type 0 where
@@ -106,28 +101,22 @@ pub record Pattern (w : Width) (c : ℕ) : Type 0 where
 
 pub pattern : (w : Width) (c : ℕ) → holds w c ≡ true → Pattern w c
 unfolding holds
-pattern w c h = go (ltb c (2 ^ (bits w - 1))) refl (leb (2 ^ 64 - 2 ^ (bits w - 1)) c) refl h
+pattern w c h = by-test (ltb c (2 ^ (bits w - 1))) (λ d. low (of-lt _ _ d)) (λ d. by-test (leb (2 ^ 64 - 2 ^ (bits w - 1)) c) (λ e. high (of-le _ _ e) (of-lt _ _ (rw (d, e) at h))) (λ e. absurd (true≢false (sym (rw (d, e) at h)))))
   where
     low : c < 2 ^ (bits w - 1) → Pattern w c
     low i = let p = powers w in record { n = c; small = omega (arith, p .half, p .power); is = extend-low w c i; same = refl }
 
-    -- n extends to c
-    high : (n : ℕ) → c ≡ n + above w * 256 ^ size w → 2 ^ (bits w - 1) ≤ n → n < 2 ^ bits w → Pattern w c
-    high n e i j = record {
-      n = n;
-      small = omega (arith, powers w .power);
-      is = extend-high w n i j ∙ sym e;
-      same = ap (bytes (size w)) e ∙ bytes-mod (size w) n (above w);
-    }
-
-    go : (a : Bool) → ltb c (2 ^ (bits w - 1)) ≡ a → (b : Bool) → leb (2 ^ 64 - 2 ^ (bits w - 1)) c ≡ b → cond a true (cond b (ltb c (2 ^ 64)) false) ≡ true → Pattern w c
-    go true d b e h = low (of-lt _ _ d)
-    go false d true e h =
-        let i : 2 ^ 64 - 2 ^ (bits w - 1) ≤ c = of-le _ _ e in
-        let j : c < 2 ^ 64 = of-lt _ _ h in
+    high : 2 ^ 64 - 2 ^ (bits w - 1) ≤ c → c < 2 ^ 64 → Pattern w c
+    high i j =
         let p = powers w in
-        high (c - above w * 256 ^ size w) (omega (arith, p .whole, p .half)) (omega (arith, p .whole, p .half)) (omega (arith, p .whole, p .half))
-    go false d false e h = let z : _≡_ {A = ℕ} 0 1 = cc in absurd (omega arith)
+        let n = c - above w * 256 ^ size w in
+        let e : c ≡ n + above w * 256 ^ size w = omega (arith, p .whole, p .half) in
+        record {
+          n = n;
+          small = omega (arith, p .whole, p .half, p .power);
+          is = extend-high w n (omega (arith, p .whole, p .half)) (omega (arith, p .whole, p .half)) ∙ sym e;
+          same = ap (bytes (size w)) e ∙ bytes-mod (size w) n (above w);
+        }
 
 -- the compiler's widths, and its signed numbers: the same
 abbrev pub inMir : Width → Mir.Width

@@ -1,11 +1,11 @@
 -- What was read has no fault: it can be written again. For every shape without an isolation level.
-use mathlib.Core.Bool.{Bool, cond, false, true}
+use mathlib.Core.Bool.{Bool, false, true}
 use mathlib.Core.List.{List, [], _∷_}
 use mathlib.Core.Option.{none, some}
 use mathlib.Core.Path.{_∙_, _≡_, ap, refl}
 use Prim.Native.Nat.{_+_, _-_, _<_, _^_, _≤_, suc, ℕ}
 use native.Mathlib.Omega.{arith}
-use lib.Dec.{leb, ltb}
+use lib.Dec.{leb}
 use lib.ListN.{length}
 use lib.Seq.{length-take-le}
 use Rattle.layout.specs.Reading.{Reader, fail, give, here, pick, raw, then}
@@ -14,7 +14,7 @@ use Rattle.layout.specs.Primitives.{Maybe, Null, Size, Width, bits, cell
 use Rattle.layout.specs.Rows.{Basic, BasicValue, Shape, Value, absent, array, blob, boolean, end, field, lacking, level, natural, number, optional, text}
 use Rattle.layout.specs.Read.{byBytes, read, readBasic, readBlob, readText}
 use Rattle.layout.specs.Write.{basicFault, fault, firstOf, or, sizedFault, tooLong, unless}
-use Rattle.layout.proofs.Tests.{lt-false, lt-true, of-lt}
+use Rattle.layout.proofs.Tests.{by-test, lt-false, lt-true, of-lt}
 use Rattle.layout.proofs.Cells.{extend, extend-holds, powers}
 use Rattle.layout.proofs.Strict.{Bytes, bytes-drop, canon-int}
 use Rattle.layout.proofs.Every.{All, EveryMaybe}
@@ -72,11 +72,7 @@ data-never-too-long m n = refl
 -- a length that can be carried is never too long
 not-long : (z : Size) (n : ℕ) → n < limit z → tooLong z n ≡ 0
 unfolding tooLong
-not-long z n h = go (leb (limit z) 32768)
-  where
-    go : (b : Bool) → cond b (unless (ltb n (limit z)) 11) 0 ≡ 0
-    go true = unless-true _ 11 (lt-true n (limit z) h)
-    go false = refl
+not-long z n h = by-test (leb (limit z) 32768) (λ d. rw d (unless-true _ 11 (lt-true n (limit z) h))) (λ d. rw d)
 
 -- one more than a length that can be carried, at most
 yields-length : (z : Size) → Gives ofBytes (lengthOf unsigned z) (λ n. n ≤ limit z)

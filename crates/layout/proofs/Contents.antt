@@ -13,7 +13,7 @@ use Rattle.layout.specs.Primitives.{keeps}
 use Rattle.layout.specs.Rows.{Shape, Value, absent, array, end, field, lacking}
 use Rattle.layout.specs.Read.{byPlace, read}
 use Rattle.layout.specs.Tables.{Span, Tables, absentCells, absentCount, append, cells, chunks, readRows, rowWidth, rowsOf}
-use Rattle.layout.proofs.Tests.{of-eq, of-ne}
+use Rattle.layout.proofs.Tests.{by-test, of-eq, of-ne}
 use Rattle.layout.proofs.Decode.{absent-width, cells-width}
 use Rattle.layout.proofs.Every.{All, Within, all-append, listOf}
 use Rattle.layout.proofs.Link.{itemsCell, link, under}
@@ -128,11 +128,7 @@ module _ (N : ℕ) where
   -- an item's part in table t
   item-in : (i : Shape) (u : ℕ) → ((y : Value Span i) (st : Tables) → length st ≡ N → Brings i u y st) → (t : ℕ) (y : Value Span i) (st : Tables) → length st ≡ N →
       (getD (lay i u y st) t [] ≡ joined (cond (eqb t u) (rowCells i y ∷ []) (rowsIn t i y)) ++ getD st t []) × (length (lay i u y st) ≡ N)
-  item-in i u h t y st e = (go (eqb t u) refl, length-lay i u y st e)
-    where
-      go : (b : Bool) → eqb t u ≡ b → getD (lay i u y st) t [] ≡ joined (cond b (rowCells i y ∷ []) (rowsIn t i y)) ++ getD st t []
-      go true d = subst (λ (w : ℕ). getD (lay i u y st) w [] ≡ (rowCells i y ++ []) ++ getD st w []) (sym (of-eq t u d)) (h y st e .own-row ∙ ap (λ (z : List ℕ). z ++ getD st u []) (sym (append-nil (rowCells i y))))
-      go false d = h y st e .others t d
+  item-in i u h t y st e = (by-test (eqb t u) (λ d. rw (d, of-eq t u d, append-nil) (h y st e .own-row)) (λ d. rw d (h y st e .others t d)), length-lay i u y st e)
 
   pub contents : (l : Shape) (o : ℕ) (x : Value Span l) (st : Tables) → length st ≡ N → o < N → Within N l → Free o l → Tree l → Brings l o x st
   unfolding lay rowCells rowsIn

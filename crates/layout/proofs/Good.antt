@@ -19,7 +19,7 @@ use Rattle.layout.proofs.Every.{All, Every, EveryBasic, EveryMaybe, Few
 use Rattle.layout.proofs.Link.{itemsCell}
 use Rattle.layout.proofs.Parts.{Eating, shown}
 use Rattle.layout.proofs.Sums.{length-flatten, one-of, sum-add, sum-append, sum-eq, sum-flatten, sum-ones, sum-same, sum-swap, sum-zero}
-use Rattle.layout.proofs.Tests.{le-true, lt-true, nonzero, not-minus, of-eq, of-ne}
+use Rattle.layout.proofs.Tests.{by-test, le-true, lt-true, nonzero, not-minus, of-eq, of-ne}
 
 both-true : (a b : Bool) → a ≡ true → b ≡ true → (a && b) ≡ true
 both-true a b h g = rw (h, g)
@@ -199,11 +199,7 @@ module _ (P : Span → Type 0) (L : Shape) (n t : ℕ) where
   array-adds A B C D E F G N S R a b c d e f = omega arith
 
   no-count : (z : Size) (v : ℕ) → keeps z ≡ false → cond (eqb t v) (count (absentCount z)) 0 ≡ 0
-  no-count z v e = ap (λ (m : ℕ). cond (eqb t v) m 0) (lacking-count z e) ∙ go (eqb t v)
-    where
-      go : (b : Bool) → _≡_ {A = ℕ} (cond b 0 0) 0
-      go true = refl
-      go false = refl
+  no-count z v e = by-test (eqb t v) (λ d. rw d (lacking-count z e)) (λ d. rw d)
 
   adds : (l : Shape) (x : Value Span l) → Within (suc n) l → Free 0 l → Tree l → Kinds L l → NoNull l → Every half P l x → total l x ≡ length (rowsIn t l x)
   unfolding asked rowCells rowsIn

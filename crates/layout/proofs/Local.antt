@@ -4,7 +4,6 @@ use mathlib.Core.List.{List, _++_, append-assoc}
 use mathlib.Core.Path.{_∙_, _≡_, ap, refl, subst}
 use Prim.Native.Nat.{_+_, _≤_, ℕ}
 use native.Mathlib.Omega.{arith}
-use lib.Dec.{leb}
 use lib.ListN.{drop, length, length-append, length-drop, take}
 use lib.Seq.{drop-at, length-take-le, take-add, take-at}
 use Rattle.layout.specs.Reading.{Reader, Refusal, Res, bad, fail, give, here, more, next, ok, pick, placed, primitive, raw, then}
@@ -17,6 +16,11 @@ use Rattle.layout.proofs.Tests.{le-true, of-le}
 -- a refusal is no answer
 pub not-ok : {A X : Type 0} {e : Refusal} {x : A} {n : ℕ} → bad e ≡ ok x n → X
 not-ok h = let z : _≡_ {A = ℕ} 0 1 = cc in absurd (omega arith)
+
+-- what is accepted has passed its tests
+pub passed : {A : Type 0} (b : Bool) (o : Res A) (e : Refusal) (x : A) (n : ℕ) → cond b o (bad e) ≡ ok x n → (b ≡ true) × (o ≡ ok x n)
+passed true o e x n h = (refl, h)
+passed false o e x n h = not-ok h
 
 pub record Same {A : Type 0} (r : Reader A) (p : ℕ) (s : List ℕ) (x : A) (n : ℕ) : Type 0 where
   pub fits : n ≤ length s
@@ -58,21 +62,21 @@ raw-ok n p s h = rw (le-true n (length s) h)
 
 pub local-raw : (n : ℕ) → Local (raw n)
 unfolding raw
-local-raw n = record { law = λ p s x m e. go p s x m _ (leb n (length s)) refl e }
-  where
-    go : (p : ℕ) (s : List ℕ) (x : List ℕ) (m : ℕ) (c : Refusal) (b : Bool) → leb n (length s) ≡ b → cond b (ok (take n s) n) (bad c) ≡ ok x m → Same (raw n) p s x m
-    go p s x m c true d e =
-        let h : n ≤ length s = of-le n (length s) d in
-        let i : n ≡ m = cc in
-        let j : take n s ≡ x = cc in
-        let l : length (take n s) ≡ n = length-take-le n s h in
-        record {
-          fits = omega arith;
-          same = λ t.
-              let g : n ≤ length (take n s ++ t) = rw length-append (omega arith) in
-              rw (← i, ← j) (raw-ok n p (take n s ++ t) g ∙ ap (λ (u : List ℕ). ok u n) (take-at (take n s) t n l));
-        }
-    go p s x m c false d e = not-ok e
+local-raw n = record {
+  law = λ p s x m e.
+      let a = passed _ _ _ x m e in
+      let c = a .1 in
+      let h : n ≤ length s = of-le _ _ (a .0) in
+      let i : n ≡ m = cc in
+      let j : take n s ≡ x = cc in
+      record {
+        fits = omega arith;
+        same = λ t.
+            let l = length-take-le n s h in
+            let g : n ≤ length (take n s ++ t) = rw length-append (omega arith) in
+            rw (← i, ← j) (raw-ok n p (take n s ++ t) g ∙ ap (λ (u : List ℕ). ok u n) (take-at (take n s) t n l));
+      };
+}
 
 pub local-then : {A B : Type 0} (r : Reader A) (f : A → Reader B) → Local r → ((x : A) → Local (f x)) → Local (then r f)
 unfolding then

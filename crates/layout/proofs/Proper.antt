@@ -17,7 +17,7 @@ use Rattle.layout.specs.Messages.Metadata as Metadata
 use Rattle.layout.proofs.Contents.{Free, Tree, Wide}
 use Rattle.layout.proofs.Every.{Within}
 use Rattle.layout.proofs.Parts.{Eating, Eats}
-use Rattle.layout.proofs.Tests.{of-eq, of-lt, of-ne}
+use Rattle.layout.proofs.Tests.{by-test, of-eq, of-lt, of-ne}
 
 pub both : (a b : Bool) → (a && b) ≡ true → (a ≡ true) × (b ≡ true)
 both true b h = (refl, h)
@@ -116,11 +116,9 @@ owes n L (lacking z t i r) h = let o = owes n L r h in record { names = o .names
 pub all-from : (p : ℕ → Bool) (s n v : ℕ) → all p (from s n) ≡ true → s ≤ v → v < s + n → p v ≡ true
 unfolding all from
 all-from p s zero v h a b = absurd (omega arith)
-all-from p s (suc n) v h a b = let c = both (p s) (all p (from (suc s) n)) h in go (λ i. all-from p (suc s) n v (c .1) i (omega arith)) (c .0) (eqb s v) refl
-  where
-    go : (s < v → p v ≡ true) → p s ≡ true → (c : Bool) → eqb s v ≡ c → p v ≡ true
-    go rec e true d = ap p (sym (of-eq s v d)) ∙ e
-    go rec e false d = rec (let x : s ≢ v = of-ne s v d in omega arith)
+all-from p s (suc n) v h a b =
+    let c = both (p s) (all p (from (suc s) n)) h in
+    by-test (eqb s v) (λ d. ap p (sym (of-eq s v d)) ∙ c .0) (λ d. all-from p (suc s) n v (c .1) (let x : s ≢ v = of-ne s v d in omega arith) (omega arith))
 
 module _ (m : Message) (h : proper m ≡ true) (v : ℕ) (low : v ≤ m .last) where
   at-version : (sound (suc (m .tables)) (shape m v) (shape m v) ≡ true) × (all (λ t. ltb 0 (widthAt m v t) && eqb (widthAt m v t) (widthAt m 0 t)) (from 1 (m .tables)) ≡ true)

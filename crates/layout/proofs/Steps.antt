@@ -7,11 +7,10 @@ use native.Mathlib.Nat.{add-zero}
 use native.Mathlib.Omega.{arith}
 use lib.Dec.{eqb, leb}
 use lib.ListN.{drop, length, take}
-use borrow.Author.Tests.{leb-false}
 use Rattle.layout.specs.Reading.{Reader, Refusal, Res, bad, because, fail, give, here, many, more, next, ok, pair, pick, placed, primitive, raw, then}
 use Rattle.layout.specs.Primitives.{be, checked, int}
 use Rattle.layout.proofs.Tests.{le-false, of-eq, of-le}
-use Rattle.layout.proofs.Local.{not-ok, raw-ok}
+use Rattle.layout.proofs.Local.{not-ok, passed, raw-ok}
 
 pub then-ok : {A B : Type 0} (r : Reader A) (f : A → Reader B) (p : ℕ) (s : List ℕ) (x : A) (n : ℕ) → r p s ≡ ok x n → then r f p s ≡ more n (f x (p + n) (drop n s))
 unfolding then
@@ -61,11 +60,11 @@ pub record Raw (n : ℕ) (s x : List ℕ) (m : ℕ) : Type 0 where
   pub used : m ≡ n
 
 pub raw-inv : (n p : ℕ) (s x : List ℕ) (m : ℕ) → raw n p s ≡ ok x m → Raw n s x m
-raw-inv n p s x m h = go (leb n (length s)) refl
-  where
-    go : (t : Bool) → leb n (length s) ≡ t → Raw n s x m
-    go true d = let i = of-le n (length s) d in let g = raw-ok n p s i in record { fits = i; is = cc; used = cc }
-    go false d = not-ok (sym (raw-bad n p s (leb-false n (length s) d)) ∙ h)
+unfolding raw
+raw-inv n p s x m h =
+    let a = passed (leb n (length s)) (ok (take n s) n) _ x m h in
+    let c = a .1 in
+    record { fits = of-le _ _ (a .0); is = cc; used = cc }
 
 pub record Number (k : ℕ) (s : List ℕ) (x n : ℕ) : Type 0 where
   pub fits : k ≤ length s
@@ -73,11 +72,14 @@ pub record Number (k : ℕ) (s : List ℕ) (x n : ℕ) : Type 0 where
   pub used : n ≡ k
 
 pub int-inv : (k p : ℕ) (s : List ℕ) (x n : ℕ) → int k p s ≡ ok x n → Number k s x n
-int-inv k p s x n e = go (leb k (length s)) refl
-  where
-    go : (b : Bool) → leb k (length s) ≡ b → Number k s x n
-    go true d = let h = of-le k (length s) d in let g = int-ok k p s h in record { fits = h; is = cc; used = cc }
-    go false d = not-ok (sym (int-bad k p s (leb-false k (length s) d)) ∙ e)
+unfolding int give
+int-inv k p s x n e =
+    let a = split (raw k) _ p s x n e in
+    let r = raw-inv k p s (a .x) (a .n) (a .first) in
+    let c = a .second in
+    let z : 0 ≡ a .k = cc in
+    let y : be 0 (a .x) ≡ x = cc in
+    record { fits = r .fits; is = sym y ∙ ap (be 0) (r .is); used = omega (arith, a .sum, r .used) }
 
 -- ---- a loop that reads items: what is read so far, one more, and a refusal
 

@@ -19,8 +19,8 @@ use Rattle.layout.specs.Read.{Codec, byBytes, read, readBasic, readBlob,
 use Rattle.layout.specs.Write.{each, write, writeBasic}
 use Rattle.layout.proofs.Cells.{extend, extend-bytes, powers}
 use Rattle.layout.proofs.Every.{All}
-use Rattle.layout.proofs.Local.{not-ok}
-use Rattle.layout.proofs.Steps.{Split, checked-inv, checked-some, int-inv, length-many, many-none, many-uncons, pair-inv, piece-inv, primitive-inv, split, then-ok}
+use Rattle.layout.proofs.Local.{not-ok, passed}
+use Rattle.layout.proofs.Steps.{checked-inv, checked-some, int-inv, length-many, many-none, many-uncons, pair-inv, piece-inv, primitive-inv, split, then-ok}
 use Rattle.layout.proofs.Kept.{Kept, kept-read}
 
 abbrev pub Bytes : List ℕ → Type 0
@@ -258,12 +258,12 @@ refines-same : {A : Type 0} (r : Reader A) → Refines r r
 refines-same r = record { law = λ p s x n h. h }
 
 refines-then : {A B : Type 0} (r q : Reader A) (f g : A → Reader B) → Refines r q → ((x : A) → Refines (f x) (g x)) → Refines (then r f) (then q g)
-refines-then {A} {B} r q f g h k = record { law = λ p s y m e. go p s y m (split r f p s y m e) }
-  where
-    go : (p : ℕ) (s : List ℕ) (y : B) (m : ℕ) → Split r f p s y m → then q g p s ≡ ok y m
-    go p s y m a =
-        then-ok q g p s (a .x) (a .n) (h .law p s (a .x) (a .n) (a .first))
-        ∙ ap (more (a .n)) (k (a .x) .law (p + a .n) (drop (a .n) s) y (a .k) (a .second)) ∙ ap (λ (z : ℕ). ok y z) (sym (a .sum))
+refines-then r q f g h k = record {
+  law = λ p s y m e.
+      let a = split r f p s y m e in
+      then-ok q g p s (a .x) (a .n) (h .law p s (a .x) (a .n) (a .first))
+      ∙ ap (more (a .n)) (k (a .x) .law (p + a .n) (drop (a .n) s) y (a .k) (a .second)) ∙ ap (λ (z : ℕ). ok y z) (sym (a .sum));
+}
 
 refines-pick : {A : Type 0} (b : Bool) (r q r′ q′ : Reader A) → Refines r r′ → Refines q q′ → Refines (pick b r q) (pick b r′ q′)
 unfolding pick
@@ -314,32 +314,24 @@ exactly e₀ w p s (bad e) = bad e
 unfoldable pub exact : {A : Type 0} → ℕ → (A → List ℕ) → Reader A → Reader A
 exact e₀ w r p s = exactly e₀ w p s (r p s)
 
-pub canon-exact : {A : Type 0} (e₀ : ℕ) (w : A → List ℕ) (r : Reader A) → Canon (exact e₀ w r) w (λ x. Unit {0})
+exact-inv : {A : Type 0} (e₀ : ℕ) (w : A → List ℕ) (r : Reader A) (p : ℕ) (s : List ℕ) (x : A) (n : ℕ) → exact e₀ w r p s ≡ ok x n → (r p s ≡ ok x n) × (w x ≡ take n s)
 unfolding exact
-canon-exact {A} e₀ w r = record { law = λ p s x n b h. go p s x n (r p s) h }
+exact-inv {A} e₀ w r p s x n h = go (r p s) refl h
   where
-    inner : (p : ℕ) (s : List ℕ) (x : A) (n : ℕ) (y : A) (m : ℕ) (t : Bool) → sameList (w y) (take m s) ≡ t → cond t (ok y m) (bad (because e₀ p)) ≡ ok x n → Took w (λ x. Unit {0}) s x n
-    inner p s x n y m true e h =
+    go : (o : Res A) → r p s ≡ o → exactly e₀ w p s o ≡ ok x n → (r p s ≡ ok x n) × (w x ≡ take n s)
+    go (ok y m) d h =
+        let a = passed (sameList (w y) (take m s)) (ok y m) _ x n h in
+        let c = a .1 in
         let i : y ≡ x = cc in
         let j : m ≡ n = cc in
-        record { same = ap w (sym i) ∙ same-list (w y) (take m s) (subst T (sym e) tt) ∙ ap (λ (k : ℕ). take k s) j; fact = tt }
-    inner p s x n y m false e h = not-ok h
+        (d ∙ c, rw (i, j) at (same-list (w y) (take m s) (rw (a .0) tt)))
+    go (bad e) d h = not-ok h
 
-    go : (p : ℕ) (s : List ℕ) (x : A) (n : ℕ) (o : Res A) → exactly e₀ w p s o ≡ ok x n → Took w (λ x. Unit {0}) s x n
-    go p s x n (ok y m) h = inner p s x n y m (sameList (w y) (take m s)) refl h
-    go p s x n (bad e) h = not-ok h
+pub canon-exact : {A : Type 0} (e₀ : ℕ) (w : A → List ℕ) (r : Reader A) → Canon (exact e₀ w r) w (λ x. Unit {0})
+canon-exact e₀ w r = record { law = λ p s x n b h. record { same = exact-inv e₀ w r p s x n h .1; fact = tt } }
 
 pub refines-exact : {A : Type 0} (e₀ : ℕ) (w : A → List ℕ) (r : Reader A) → Refines (exact e₀ w r) r
-unfolding exact
-refines-exact {A} e₀ w r = record { law = λ p s x n h. go p s x n (r p s) refl h }
-  where
-    inner : (p : ℕ) (s : List ℕ) (x : A) (n : ℕ) (y : A) (m : ℕ) (t : Bool) → cond t (ok y m) (bad (because e₀ p)) ≡ ok x n → ok y m ≡ ok x n
-    inner p s x n y m true h = h
-    inner p s x n y m false h = not-ok h
-
-    go : (p : ℕ) (s : List ℕ) (x : A) (n : ℕ) (o : Res A) → r p s ≡ o → exactly e₀ w p s o ≡ ok x n → r p s ≡ ok x n
-    go p s x n (ok y m) d h = d ∙ inner p s x n y m (sameList (w y) (take m s)) h
-    go p s x n (bad e) d h = not-ok h
+refines-exact e₀ w r = record { law = λ p s x n h. exact-inv e₀ w r p s x n h .0 }
 
 -- a text as its bytes; varints and Booleans only as they are written
 abbrev pub strict : ℕ → Codec

@@ -1,5 +1,5 @@
 -- Sums over lists, and lists of lists.
-use mathlib.Core.Bool.{Bool, cond, false, true}
+use mathlib.Core.Bool.{cond}
 use mathlib.Core.List.{List, [], _++_, _∷_, map}
 use mathlib.Core.Logic.{_≢_}
 use mathlib.Core.Path.{_∙_, _≡_, ap, refl, sym}
@@ -12,7 +12,7 @@ use borrow.Author.Tests.{ne-eqb}
 use Rattle.layout.specs.Tables.{from, sum}
 use Rattle.layout.proofs.Contents.{flatten}
 use Rattle.layout.proofs.Every.{All}
-use Rattle.layout.proofs.Tests.{of-eq, of-ne}
+use Rattle.layout.proofs.Tests.{by-test, of-eq, of-ne}
 
 pub sum-add : {A : Type 0} (g h : A → ℕ) (xs : List A) → sum (λ x. g x + h x) xs ≡ sum g xs + sum h xs
 unfolding sum
@@ -77,14 +77,7 @@ past a f v s (suc n) h = λ i. cond (ne-eqb s v (λ e. omega arith) i) (a s) (f 
 pub one-of : (a f : ℕ → ℕ) (v s n : ℕ) → s ≤ v → v < s + n → f v ≡ 0 → sum (λ u. cond (eqb u v) (a u) (f u)) (from s n) ≡ a v + sum f (from s n)
 unfolding sum from
 one-of a f v s zero h g z = absurd (omega arith)
-one-of a f v s (suc n) h g z = go (λ i. one-of a f v (suc s) n i (omega arith) z) (eqb s v) refl
-  where
-    go : (s < v → sum (λ u. cond (eqb u v) (a u) (f u)) (from (suc s) n) ≡ a v + sum f (from (suc s) n)) → (b : Bool) → eqb s v ≡ b →
-        cond b (a s) (f s) + sum (λ u. cond (eqb u v) (a u) (f u)) (from (suc s) n) ≡ a v + (f s + sum f (from (suc s) n))
-    go rec true e =
-        let d : s ≡ v = of-eq s v e in
-        let p = past a f v (suc s) n (omega arith) in
-        let x : a s ≡ a v = ap a d in
-        let y : f s ≡ 0 = ap f d ∙ z in
-        omega arith
-    go rec false e = let d : s ≢ v = of-ne s v e in let r = rec (omega arith) in omega arith
+one-of a f v s (suc n) h g z =
+    by-test (eqb s v)
+    (λ e. let d = of-eq s v e in rw e (omega (arith, ap a d, ap f d, past a f v (suc s) n (omega arith))))
+    (λ e. let d : s ≢ v = of-ne s v e in rw e (omega (arith, one-of a f v (suc s) n (omega arith) (omega arith) z)))

@@ -11,7 +11,7 @@ use lib.ListN.{drop, getD, length, length-append, length-drop, take, take-append
 use lib.Seq.{drop-append-seam, drop-cons, drop-drop, length-take-le, take-add, take-length}
 use borrow.Author.Tests.{eq-eqb}
 use Rattle.layout.specs.Utf8.{Range, begins, characters, first, utf8, wellFormed, wellFormedFrom, within}
-use Rattle.layout.proofs.Tests.{le-false, of-eq, of-le}
+use Rattle.layout.proofs.Tests.{by-test, le-false, of-eq, of-le}
 
 -- one of the alternatives of UTF8-char
 abbrev pub Alternative : List Range → Type 0
@@ -36,11 +36,7 @@ begins-fits (r ∷ rs) (b ∷ s) e = let h = begins-fits rs s (begins-cons r rs 
 
 -- a text that is too short begins with none
 pub begins-cut : (c : List Range) (s : List ℕ) → length s < length c → begins c s ≡ false
-begins-cut c s h = go (begins c s) refl
-  where
-    go : (b : Bool) → begins c s ≡ b → b ≡ false
-    go false e = refl
-    go true e = let f = begins-fits c s e in absurd (omega arith)
+begins-cut c s h = by-test (begins c s) (λ e. let f = begins-fits c s e in absurd (omega arith)) (λ e. e)
 
 -- one byte of it, at a place of the whole
 pub begins-at : (r : Range) (rs : List Range) (s : List ℕ) (i j : ℕ) → i < length s → j ≡ i + 1 → begins (r ∷ rs) (drop i s) ≡ (within r (getD s i 0) && begins rs (drop j s))
@@ -176,11 +172,8 @@ rising-rest n r rs cs k = rising-cons n r rs cs k .rest
 -- in its range the rest of it decides, for no later one has the byte in its range
 pub first-at : (n : ℕ) (r : Range) (rs : List Range) (cs : List (List Range)) → rising n ((r ∷ rs) ∷ cs) ≡ true → (b : ℕ) (s : List ℕ) → within r b ≡ true → first ((r ∷ rs) ∷ cs) (b ∷ s) ≡ cond (begins rs s) (suc (length rs)) 0
 unfolding first begins
-first-at n r rs cs k b s w = rw w (go (begins rs s))
-  where
-    go : (t : Bool) → cond t (suc (length rs)) (first cs (b ∷ s)) ≡ cond t (suc (length rs)) 0
-    go true = refl
-    go false = below (suc (r .1)) cs (rising-rest n r rs cs k) b s (let h = within-high r b w in omega arith)
+first-at n r rs cs k b s w =
+    rw w (by-test (begins rs s) (λ d. rw d) (λ d. rw d (below (suc (r .1)) cs (rising-rest n r rs cs k) b s (let h = within-high r b w in omega arith))))
 
 pub first-past : (r : Range) (rs : List Range) (cs : List (List Range)) (b : ℕ) (s : List ℕ) → within r b ≡ false → first ((r ∷ rs) ∷ cs) (b ∷ s) ≡ first cs (b ∷ s)
 unfolding first begins
