@@ -1,17 +1,13 @@
 -- The first row that begins with a cell decides, whatever rows come after it.
-use mathlib.Core.Bool.{Bool, false, true}
-use mathlib.Core.List.{List, [], _++_, _∷_, append-nil}
-use mathlib.Core.Logic.{_↔_, _≢_}
-use mathlib.Core.Option.{none, some}
-use mathlib.Core.Path.{_∙_, _≡_, ap, refl, sym}
+use mathlib.Core.List.{List, [], _++_, _∷_}
+use mathlib.Core.Logic.{_≢_}
+use mathlib.Core.Option.{some}
+use mathlib.Core.Path.{_∙_, _≡_, refl}
 use Prim.Native.Nat.{ℕ}
-use native.Mathlib.Omega.{arith}
-use lib.Dec.{eqb}
 use lib.ListN.{getD}
 use borrow.Author.Tests.{eq-eqb, ne-eqb}
 use Rattle.layout.specs.Tables.{firstRow}
 use Rattle.layout.proofs.Every.{All}
-use Rattle.layout.proofs.Tests.{of-eq, of-ne}
 
 -- the row begins with another cell
 abbrev pub Other : ℕ → List ℕ → Type 0
@@ -31,16 +27,3 @@ behind c (r ∷ before) rows h = past c r (before ++ rows) (h .0) ∙ behind c b
 
 pub first-decides : (c : ℕ) (before : List (List ℕ)) (r : List ℕ) (after : List (List ℕ)) → All (Other c) before → getD r 0 0 ≡ c → firstRow c (before ++ r ∷ after) ≡ some r
 first-decides c before r after h e = behind c before (r ∷ after) h ∙ here c r after e
-
-others : (c : ℕ) (rows : List (List ℕ)) → firstRow c rows ≡ none → All (Other c) rows
-others c [] e = tt
-others c (r ∷ rows) e = go (eqb (getD r 0 0) c) refl (λ d. others c rows d)
-  where
-    go : (b : Bool) → eqb (getD r 0 0) c ≡ b → (firstRow c rows ≡ none → All (Other c) rows) → Other c r × All (Other c) rows
-    go true d f = let g = here c r rows (of-eq (getD r 0 0) c d) in let z : _≡_ {A = ℕ} 0 1 = cc in absurd (omega arith)
-    go false d f = let o = of-ne (getD r 0 0) c d in (o, f (sym (past c r rows o) ∙ e))
-
--- there is none exactly if every row begins with another
-pub no-row : (c : ℕ) (rows : List (List ℕ)) → (firstRow c rows ≡ none) ↔ All (Other c) rows
-unfolding firstRow
-no-row c rows = (others c rows, λ h. ap (firstRow c) (sym (append-nil rows)) ∙ behind c rows [] h)

@@ -94,88 +94,46 @@ abbrev pub set : ℕ → ℕ
 set c = cond (eqb c minus) 0 c
 
 -- An ApiVersions response: error, number of items, throttle (kind, number), number of tags; an item: key, minimum, maximum, number of tags; a tag.
+-- Version 0 lacks throttle time and tags. 1 and 2 lack tags; an unset throttle time comes back present and 0. 3 has them all; unset tags come back as none.
 module _ (lent : List ℕ) (e n k t g : ℕ) where
-  -- version 0 lacks throttle time and tags
-  pub response-0 : settledRow lent (shape Api.response 0) (e ∷ n ∷ k ∷ t ∷ g ∷ []) ≡ num e ∷ num (set n) ∷ num 0 ∷ num 0 ∷ num minus ∷ []
-  unfolding shape at stands standing tagRows Api.responseRows Api.keyRows settledRow settledCells shownCells settledCount gone goneCount width
-  response-0 = refl
-
-  -- 1 and 2 lack tags; an unset throttle time comes back present and 0
-  pub response-1 : (settledRow lent (shape Api.response 1) (e ∷ n ∷ 0 ∷ t ∷ g ∷ []) ≡ num e ∷ num (set n) ∷ num 2 ∷ num 0 ∷ num minus ∷ []) ×
-      (settledRow lent (shape Api.response 1) (e ∷ n ∷ 2 ∷ t ∷ g ∷ []) ≡ num e ∷ num (set n) ∷ num 2 ∷ num t ∷ num minus ∷ [])
-  unfolding shape at stands standing tagRows Api.responseRows Api.keyRows settledRow settledCells shownCells settledCount gone goneCount width
-  response-1 = (refl, refl)
-
-  -- 3 has them all; unset tags come back as none
-  pub response-3 : (settledRow lent (shape Api.response 3) (e ∷ n ∷ 0 ∷ t ∷ g ∷ []) ≡ num e ∷ num (set n) ∷ num 2 ∷ num 0 ∷ num (set g) ∷ []) ×
-      (settledRow lent (shape Api.response 3) (e ∷ n ∷ 2 ∷ t ∷ g ∷ []) ≡ num e ∷ num (set n) ∷ num 2 ∷ num t ∷ num (set g) ∷ [])
-  unfolding shape at stands standing tagRows Api.responseRows Api.keyRows settledRow settledCells shownCells settledCount gone goneCount width
-  response-3 = (refl, refl)
-
-  pub item-0 : settledRow lent (kindOf 1 (shape Api.response 0)) (e ∷ n ∷ t ∷ g ∷ []) ≡ num e ∷ num n ∷ num t ∷ num minus ∷ []
-  unfolding kindOf kindIn arrays shape at stands standing tagRows Api.responseRows Api.keyRows settledRow settledCells shownCells settledCount gone goneCount width
-  item-0 = refl
-
-  pub item-1 : settledRow lent (kindOf 1 (shape Api.response 1)) (e ∷ n ∷ t ∷ g ∷ []) ≡ num e ∷ num n ∷ num t ∷ num minus ∷ []
-  unfolding kindOf kindIn arrays shape at stands standing tagRows Api.responseRows Api.keyRows settledRow settledCells shownCells settledCount gone goneCount width
-  item-1 = refl
-
-  pub item-3 : settledRow lent (kindOf 1 (shape Api.response 3)) (e ∷ n ∷ t ∷ g ∷ []) ≡ num e ∷ num n ∷ num t ∷ num (set g) ∷ []
-  unfolding kindOf kindIn arrays shape at stands standing tagRows Api.responseRows Api.keyRows settledRow settledCells shownCells settledCount gone goneCount width
-  item-3 = refl
-
-  pub tag-3 : settledRow lent (kindOf 2 (shape Api.response 3)) (e ∷ n ∷ t ∷ []) ≡ num e ∷ part (slice lent (n, t)) ∷ []
-  unfolding kindOf kindIn arrays shape at stands standing tagRows Api.responseRows Api.keyRows settledRow settledCells settledSpan shownCells shownSpan settledCount width
-  tag-3 = refl
+  pub responses : (settledRow lent (shape Api.response 0) (e ∷ n ∷ k ∷ t ∷ g ∷ []) ≡ num e ∷ num (set n) ∷ num 0 ∷ num 0 ∷ num minus ∷ []) ×
+      (settledRow lent (shape Api.response 1) (e ∷ n ∷ 0 ∷ t ∷ g ∷ []) ≡ num e ∷ num (set n) ∷ num 2 ∷ num 0 ∷ num minus ∷ []) ×
+      (settledRow lent (shape Api.response 1) (e ∷ n ∷ 2 ∷ t ∷ g ∷ []) ≡ num e ∷ num (set n) ∷ num 2 ∷ num t ∷ num minus ∷ []) ×
+      (settledRow lent (shape Api.response 3) (e ∷ n ∷ 0 ∷ t ∷ g ∷ []) ≡ num e ∷ num (set n) ∷ num 2 ∷ num 0 ∷ num (set g) ∷ []) ×
+      (settledRow lent (shape Api.response 3) (e ∷ n ∷ 2 ∷ t ∷ g ∷ []) ≡ num e ∷ num (set n) ∷ num 2 ∷ num t ∷ num (set g) ∷ []) ×
+      (settledRow lent (kindOf 1 (shape Api.response 0)) (e ∷ n ∷ t ∷ g ∷ []) ≡ num e ∷ num n ∷ num t ∷ num minus ∷ []) ×
+      (settledRow lent (kindOf 1 (shape Api.response 1)) (e ∷ n ∷ t ∷ g ∷ []) ≡ num e ∷ num n ∷ num t ∷ num minus ∷ []) ×
+      (settledRow lent (kindOf 1 (shape Api.response 3)) (e ∷ n ∷ t ∷ g ∷ []) ≡ num e ∷ num n ∷ num t ∷ num (set g) ∷ []) ×
+      (settledRow lent (kindOf 2 (shape Api.response 3)) (e ∷ n ∷ t ∷ []) ≡ num e ∷ part (slice lent (n, t)) ∷ [])
+  unfolding kindOf kindIn arrays shape at stands standing tagRows Api.responseRows Api.keyRows settledRow settledCells settledSpan shownCells shownSpan settledCount gone goneCount width
+  responses = (refl, refl, refl, refl, refl, refl, refl, refl, refl)
 
 -- An ApiVersions request: name and version of the client's software (kind, start, length), number of tags. Below 3 all is absent; unset texts are empty.
 module _ (lent : List ℕ) (k a n j b m g : ℕ) where
-  pub request-0 : settledRow lent (shape Api.request 0) (k ∷ a ∷ n ∷ j ∷ b ∷ m ∷ g ∷ []) ≡ num 0 ∷ part [] ∷ num 0 ∷ part [] ∷ num minus ∷ []
-  unfolding shape at stands standing tagRows Api.requestRows settledRow settledCells shownCells shownSpan settledCount gone goneCount width slice
-  request-0 = refl
-
-  pub request-3 : (settledRow lent (shape Api.request 3) (0 ∷ a ∷ n ∷ 0 ∷ b ∷ m ∷ g ∷ []) ≡ num 2 ∷ part [] ∷ num 2 ∷ part [] ∷ num (set g) ∷ []) ×
+  pub requests : (settledRow lent (shape Api.request 0) (k ∷ a ∷ n ∷ j ∷ b ∷ m ∷ g ∷ []) ≡ num 0 ∷ part [] ∷ num 0 ∷ part [] ∷ num minus ∷ []) ×
+      (settledRow lent (shape Api.request 3) (0 ∷ a ∷ n ∷ 0 ∷ b ∷ m ∷ g ∷ []) ≡ num 2 ∷ part [] ∷ num 2 ∷ part [] ∷ num (set g) ∷ []) ×
       (settledRow lent (shape Api.request 3) (2 ∷ a ∷ n ∷ 2 ∷ b ∷ m ∷ g ∷ []) ≡ num 2 ∷ part (slice lent (a, n)) ∷ num 2 ∷ part (slice lent (b, m)) ∷ num (set g) ∷ [])
   unfolding shape at stands standing tagRows Api.requestRows settledRow settledCells settledSpan shownCells shownSpan settledCount gone goneCount width slice
-  request-3 = (refl, refl)
+  requests = (refl, refl, refl)
 
--- A Metadata request: number of topics, null as it is; auto-creation (kind, flag), absent below 4, and true where it is unset.
+-- A Metadata request: number of topics, null as it is; auto-creation (kind, flag), absent below 4, and true where it is unset. A topic: its name.
 module _ (lent : List ℕ) (c k b : ℕ) where
-  pub metadata-3 : settledRow lent (shape Metadata.request 3) (c ∷ k ∷ b ∷ []) ≡ num c ∷ num 0 ∷ num 0 ∷ []
-  unfolding shape at stands standing Metadata.requestRows Metadata.nameRows settledRow settledCells shownCells settledCount gone goneCount width
-  metadata-3 = refl
+  pub metadata-requests : (settledRow lent (shape Metadata.request 3) (c ∷ k ∷ b ∷ []) ≡ num c ∷ num 0 ∷ num 0 ∷ []) ×
+      (settledRow lent (shape Metadata.request 4) (c ∷ 0 ∷ b ∷ []) ≡ num c ∷ num 2 ∷ num 1 ∷ []) ×
+      (settledRow lent (shape Metadata.request 4) (c ∷ 2 ∷ b ∷ []) ≡ num c ∷ num 2 ∷ num (cond (ltb 0 b) 1 0) ∷ []) ×
+      (settledRow lent (kindOf 1 (shape Metadata.request 4)) (c ∷ k ∷ []) ≡ part (slice lent (c, k)) ∷ [])
+  unfolding kindOf kindIn arrays shape at stands standing Metadata.requestRows Metadata.nameRows settledRow settledCells settledSpan shownCells shownSpan settledCount gone goneCount width
+  metadata-requests = (refl, refl, refl, refl)
 
-  pub metadata-4 : (settledRow lent (shape Metadata.request 4) (c ∷ 0 ∷ b ∷ []) ≡ num c ∷ num 2 ∷ num 1 ∷ []) × (settledRow lent (shape Metadata.request 4) (c ∷ 2 ∷ b ∷ []) ≡ num c ∷ num 2 ∷ num (cond (ltb 0 b) 1 0) ∷ [])
-  unfolding shape at stands standing Metadata.requestRows Metadata.nameRows settledRow settledCells shownCells settledCount gone goneCount width
-  metadata-4 = (refl, refl)
-
-  -- a topic's name
-  pub name-4 : settledRow lent (kindOf 1 (shape Metadata.request 4)) (c ∷ k ∷ []) ≡ part (slice lent (c, k)) ∷ []
-  unfolding kindOf kindIn arrays shape at stands standing Metadata.requestRows Metadata.nameRows settledRow settledCells settledSpan shownCells shownSpan settledCount width
-  name-4 = refl
-
--- A Fetch request: replica, wait, min bytes, max bytes (kind, number), isolation (kind, number), number of topics.
+-- A Fetch request: replica, wait, min bytes, max bytes (kind, number), isolation (kind, number), number of topics; a topic: its name, number of partitions; a partition: index, offset, max bytes.
 -- Max bytes are absent below 3, and 2,147,483,647 where they are unset; the isolation level is absent below 4, and 0 where it is unset.
 module _ (lent : List ℕ) (r w m k x j i c : ℕ) where
-  pub fetch-2 : settledRow lent (shape Fetch.request 2) (r ∷ w ∷ m ∷ k ∷ x ∷ j ∷ i ∷ c ∷ []) ≡ num r ∷ num w ∷ num m ∷ num 0 ∷ num 0 ∷ num 0 ∷ num 0 ∷ num (set c) ∷ []
-  unfolding shape at stands standing Fetch.requestRows Fetch.askTopicRows Fetch.askRows settledRow settledCells shownCells settledCount gone goneCount width
-  fetch-2 = refl
-
-  pub fetch-3 : (settledRow lent (shape Fetch.request 3) (r ∷ w ∷ m ∷ 0 ∷ x ∷ j ∷ i ∷ c ∷ []) ≡ num r ∷ num w ∷ num m ∷ num 2 ∷ num 2147483647 ∷ num 0 ∷ num 0 ∷ num (set c) ∷ []) ×
-      (settledRow lent (shape Fetch.request 3) (r ∷ w ∷ m ∷ 2 ∷ x ∷ j ∷ i ∷ c ∷ []) ≡ num r ∷ num w ∷ num m ∷ num 2 ∷ num x ∷ num 0 ∷ num 0 ∷ num (set c) ∷ [])
-  unfolding shape at stands standing Fetch.requestRows Fetch.askTopicRows Fetch.askRows settledRow settledCells shownCells settledCount gone goneCount width
-  fetch-3 = (refl, refl)
-
-  pub fetch-4 : (settledRow lent (shape Fetch.request 4) (r ∷ w ∷ m ∷ 0 ∷ x ∷ 0 ∷ i ∷ c ∷ []) ≡ num r ∷ num w ∷ num m ∷ num 2 ∷ num 2147483647 ∷ num 2 ∷ num 0 ∷ num (set c) ∷ []) ×
-      (settledRow lent (shape Fetch.request 4) (r ∷ w ∷ m ∷ 2 ∷ x ∷ 2 ∷ i ∷ c ∷ []) ≡ num r ∷ num w ∷ num m ∷ num 2 ∷ num x ∷ num 2 ∷ num i ∷ num (set c) ∷ [])
-  unfolding shape at stands standing Fetch.requestRows Fetch.askTopicRows Fetch.askRows settledRow settledCells shownCells settledCount gone goneCount width
-  fetch-4 = (refl, refl)
-
-  -- a topic: its name, number of partitions; a partition: index, offset, max bytes
-  pub topic-4 : settledRow lent (kindOf 1 (shape Fetch.request 4)) (r ∷ w ∷ c ∷ []) ≡ part (slice lent (r, w)) ∷ num (set c) ∷ []
-  unfolding kindOf kindIn arrays shape at stands standing Fetch.requestRows Fetch.askTopicRows Fetch.askRows settledRow settledCells settledSpan shownCells shownSpan settledCount width
-  topic-4 = refl
-
-  pub partition-4 : settledRow lent (kindOf 2 (shape Fetch.request 4)) (r ∷ w ∷ m ∷ []) ≡ num r ∷ num w ∷ num m ∷ []
-  unfolding kindOf kindIn arrays shape at stands standing Fetch.requestRows Fetch.askTopicRows Fetch.askRows settledRow settledCells shownCells settledCount width
-  partition-4 = refl
+  pub fetch-requests : (settledRow lent (shape Fetch.request 2) (r ∷ w ∷ m ∷ k ∷ x ∷ j ∷ i ∷ c ∷ []) ≡ num r ∷ num w ∷ num m ∷ num 0 ∷ num 0 ∷ num 0 ∷ num 0 ∷ num (set c) ∷ []) ×
+      (settledRow lent (shape Fetch.request 3) (r ∷ w ∷ m ∷ 0 ∷ x ∷ j ∷ i ∷ c ∷ []) ≡ num r ∷ num w ∷ num m ∷ num 2 ∷ num 2147483647 ∷ num 0 ∷ num 0 ∷ num (set c) ∷ []) ×
+      (settledRow lent (shape Fetch.request 3) (r ∷ w ∷ m ∷ 2 ∷ x ∷ j ∷ i ∷ c ∷ []) ≡ num r ∷ num w ∷ num m ∷ num 2 ∷ num x ∷ num 0 ∷ num 0 ∷ num (set c) ∷ []) ×
+      (settledRow lent (shape Fetch.request 4) (r ∷ w ∷ m ∷ 0 ∷ x ∷ 0 ∷ i ∷ c ∷ []) ≡ num r ∷ num w ∷ num m ∷ num 2 ∷ num 2147483647 ∷ num 2 ∷ num 0 ∷ num (set c) ∷ []) ×
+      (settledRow lent (shape Fetch.request 4) (r ∷ w ∷ m ∷ 2 ∷ x ∷ 2 ∷ i ∷ c ∷ []) ≡ num r ∷ num w ∷ num m ∷ num 2 ∷ num x ∷ num 2 ∷ num i ∷ num (set c) ∷ []) ×
+      (settledRow lent (kindOf 1 (shape Fetch.request 4)) (r ∷ w ∷ c ∷ []) ≡ part (slice lent (r, w)) ∷ num (set c) ∷ []) ×
+      (settledRow lent (kindOf 2 (shape Fetch.request 4)) (r ∷ w ∷ m ∷ []) ≡ num r ∷ num w ∷ num m ∷ [])
+  unfolding kindOf kindIn arrays shape at stands standing Fetch.requestRows Fetch.askTopicRows Fetch.askRows settledRow settledCells settledSpan shownCells shownSpan settledCount gone goneCount width
+  fetch-requests = (refl, refl, refl, refl, refl, refl, refl)

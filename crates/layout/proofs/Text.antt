@@ -137,9 +137,6 @@ module _ (c : List Range) (P : ℕ → List (List Range) → Type 0)
       go h f (inl i) = here n r rs cs h i
       go h f (inr l) = past n r rs cs h l (f (h .rest) l)
 
-filled : (c : List Range) → Alternative c → 0 < length c
-filled c m = where-listed c (λ n cs. 0 < length c) (λ n r rs cs h i. rw i (omega arith)) (λ n r rs cs h l g. g) 0 characters characters-rise m
-
 begins-as : (c d : List Range) (s : List ℕ) → c ≡ d → begins c s ≡ true → begins d s ≡ true
 begins-as c d s i e = subst (λ (x : List Range). begins x s ≡ true) i e
 
@@ -287,20 +284,6 @@ front-longest s n h e =
     let d = ap wellFormed (sym (take-append-drop n s)) ∙ front-through (take n s) (drop n s) e in
     omega (arith, length-take-le n s h)
 
-pub utf8-append : (a b : List ℕ) → utf8 a ≡ true → utf8 b ≡ true → utf8 (a ++ b) ≡ true
-utf8-append a b d e = utf8-is (a ++ b) (omega (arith, front-through a b d, utf8-whole b e, length-append a b))
-
 -- behind it the text ends, or no character begins
 pub cut-or-bad : (s : List ℕ) → first characters (drop (wellFormed s) s) ≡ 0
 cut-or-bad s = parts s .stop
-
-pub no-character : (s : List ℕ) (c : List Range) → Alternative c → begins c (drop (wellFormed s) s) ≡ false
-no-character s c m = go (begins c (drop (wellFormed s) s)) refl
-  where
-    go : (b : Bool) → begins c (drop (wellFormed s) s) ≡ b → b ≡ false
-    go false e = refl
-    go true e =
-        let f = first-is c m (drop (wellFormed s) s) e in
-        let d = cut-or-bad s in
-        let h = filled c m in
-        absurd (omega arith)
