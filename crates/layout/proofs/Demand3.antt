@@ -67,16 +67,12 @@ era (negsuc v) = eraOf 0
 
 -- a body seen whole is accepted at the layout of its version
 at-its-layout : (v : ℤ) (s : List ℕ) (st : Tables) (n : ℕ) → seen true Api.response v s ≡ ok st n → Accepted (layoutOf (era v)) s
-at-its-layout v s st n e = go (seen-inv true Api.response v s st n e) (seen-fits Api.response v s true st n e)
-  where
-    go : Seen true Api.response v s st n → n ≤ length s → Accepted (layoutOf (era v)) s
-    go d fits =
-        let a = d .to-the-end refl in
-        let x : n ≡ length s = omega arith in
-        let z : era v ≡ eraOf (d .version) = ap era (d .is) in
-        let l = shape Api.response (d .version) in
-        let b : Accepted l s = record { x = meant s st l; whole-read = means-again (d .version) (d .known) true s st n (d .short) (d .reads) ∙ ap (λ (k : ℕ). ok (meant s st l) k) x } in
-        subst (λ (f : Era). Accepted (layoutOf f) s) (sym z) (subst (λ (l : Shape). Accepted l s) (layout-is (d .version) (d .known)) b)
+at-its-layout v s st n e =
+    let d = seen-inv true Api.response v s st n e in
+    let l = shape Api.response (d .version) in
+    let x : n ≡ length s = omega (arith, seen-fits Api.response v s true st n e, d .to-the-end refl) in
+    let b : Accepted l s = record { x = meant s st l; whole-read = means-again (d .version) (d .known) true s st n (d .short) (d .reads) ∙ ap (λ (k : ℕ). ok (meant s st l) k) x } in
+    subst (λ (f : Era). Accepted (layoutOf f) s) (sym (ap era (d .is))) (subst (λ (l : Shape). Accepted l s) (layout-is (d .version) (d .known)) b)
 
 -- whatever tables are lent: two versions that accept a body whole have one layout
 pub at-most-one : (v w : ℤ) (s : List ℕ) (room room′ : Tables) (r r′ : List ℕ) (n n′ : ℕ) (after after′ : Tables) →

@@ -98,10 +98,11 @@ always-then r f a b h g = record {
 }
 
 always-pair : {A B : Type 0} (r : Reader A) (q : Reader B) (a b : ℕ) → Always r a → Always q b → Always (pair r q) (a + b)
-always-pair {A} {B} r q a b h g = record { law = λ p s z m e. go p s z m (pair-inv r q p s z m e) }
-  where
-    go : (p : ℕ) (s : List ℕ) (z : A × B) (m : ℕ) → Pair r q p s z m → m ≡ a + b
-    go p s z m d = omega (arith, d .sum, h .law p s (z .0) (d .n) (d .first), g .law _ _ (z .1) (d .k) (d .second))
+always-pair r q a b h g = record {
+  law = λ p s z m e.
+      let d = pair-inv r q p s z m e in
+      omega (arith, d .sum, h .law p s (z .0) (d .n) (d .first), g .law _ _ (z .1) (d .k) (d .second));
+}
 
 always-many : {A : Type 0} (r : Reader A) (k : ℕ) → Always r k → (n p : ℕ) (s : List ℕ) (xs : List A) (m : ℕ) → many n r p s ≡ ok xs m → m ≡ n * k
 always-many r k h zero p s xs m e = let d = many-none r p s in let z : m ≡ 0 = cc in omega arith
@@ -121,12 +122,10 @@ record Front {A B : Type 0} (k : ℕ) (q : Reader B) (p : ℕ) (s : List ℕ) (z
   total : m ≡ k + n
 
 front-inv : {A B : Type 0} (k : ℕ) (r : Reader A) (q : Reader B) (p : ℕ) (s : List ℕ) (z : A × B) (m : ℕ) → Always r k → pair r q p s ≡ ok z m → Front k q p s z m
-front-inv {A} {B} k r q p s z m h e = go (pair-inv r q p s z m e)
-  where
-    go : Pair r q p s z m → Front k q p s z m
-    go a =
-        let u = h .law p s (z .0) (a .n) (a .first) in
-        record { n = a .k; later = subst (λ (j : ℕ). q (p + j) (drop j s) ≡ ok (z .1) (a .k)) u (a .second); total = omega (arith, a .sum) }
+front-inv k r q p s z m h e =
+    let a = pair-inv r q p s z m e in
+    let u = h .law p s (z .0) (a .n) (a .first) in
+    record { n = a .k; later = subst (λ (j : ℕ). q (p + j) (drop j s) ≡ ok (z .1) (a .k)) u (a .second); total = omega (arith, a .sum) }
 
 -- ---- how many bytes versions 0, 1 and 2 use: six for each item
 
@@ -141,27 +140,21 @@ abbrev keys : Reader (List (Value (List ℕ) oldKey))
 keys = sized false false 8 (lengthOf unsigned (fixed w32 empty)) (λ n. many n keyReader)
 
 counted : (p : ℕ) (s : List ℕ) (xs : List (Value (List ℕ) oldKey)) (m : ℕ) → keys p s ≡ ok xs m → (4 ≤ length s) × (m ≡ 4 + be 0 (take 4 s) * 6)
-counted p s xs m e = go (sized-inv 8 (lengthOf unsigned (fixed w32 empty)) _ p s xs m e)
-  where
-    go : Items (lengthOf unsigned (fixed w32 empty)) (λ n. many n keyReader) p s xs m → (4 ≤ length s) × (m ≡ 4 + be 0 (take 4 s) * 6)
-    go i =
-        let j = count-inv p s (i .n) (i .a) (i .count-is) in
-        let k = always-many _ 6 always-key (i .n) _ _ xs (i .k) (i .items) in
-        (j .fits, omega (arith, i .total, j .is, j .used))
+counted p s xs m e =
+    let i = sized-inv 8 (lengthOf unsigned (fixed w32 empty)) _ p s xs m e in
+    let j = count-inv p s (i .n) (i .a) (i .count-is) in
+    let k = always-many _ 6 always-key (i .n) _ _ xs (i .k) (i .items) in
+    (j .fits, omega (arith, i .total, j .is, j .used))
 
 -- what stands behind the items uses j bytes
 old : {A : Type 0} (q : Reader A) (j : ℕ) (s : List ℕ) (z : ℕ × (List (Value (List ℕ) oldKey) × A)) (m : ℕ) → Always q j → pair (cell w16) (pair keys q) 0 s ≡ ok z m →
     (4 ≤ length (drop 2 s)) × (m ≡ 6 + be 0 (take 4 (drop 2 s)) * 6 + j)
-old {A} q j s z m a h = go (front-inv 2 (cell w16) _ 0 s z m (always-cell w16) h)
-  where
-    last : (n : ℕ) → m ≡ 2 + n → Pair keys q 2 (drop 2 s) (z .1) n → (4 ≤ length (drop 2 s)) × (m ≡ 6 + be 0 (take 4 (drop 2 s)) * 6 + j)
-    last n i b =
-        let d = counted 2 (drop 2 s) (z .1 .0) (b .n) (b .first) in
-        let u = a .law _ _ (z .1 .1) (b .k) (b .second) in
-        (d .0, omega (arith, b .sum, d .1, u))
-
-    go : Front 2 (pair keys q) 0 s z m → (4 ≤ length (drop 2 s)) × (m ≡ 6 + be 0 (take 4 (drop 2 s)) * 6 + j)
-    go f = last (f .n) (f .total) (pair-inv keys q 2 (drop 2 s) (z .1) (f .n) (f .later))
+old q j s z m a h =
+    let f = front-inv 2 (cell w16) _ 0 s z m (always-cell w16) h in
+    let b = pair-inv keys q 2 (drop 2 s) (z .1) (f .n) (f .later) in
+    let d = counted 2 (drop 2 s) (z .1 .0) (b .n) (b .first) in
+    let u = a .law _ _ (z .1 .1) (b .k) (b .second) in
+    (d .0, omega (arith, f .total, b .sum, d .1, u))
 
 uses-0 : (s : List ℕ) (x : Value (List ℕ) shape0) (m : ℕ) → read (byBytes true) shape0 0 s ≡ ok x m → (4 ≤ length (drop 2 s)) × (m ≡ 6 + be 0 (take 4 (drop 2 s)) * 6 + 0)
 unfolding read readBasic
@@ -190,10 +183,9 @@ not-3 s x m t d h =
     let f = front-inv 2 (cell w16) _ 0 s x m (always-cell w16) h in
     let b = pair-inv _ _ 2 (drop 2 s) (x .1) _ (f .later) in
     let i = sized-inv 8 unsigned _ 2 (drop 2 s) (x .1 .0) _ (b .first) in
-    end-it (i .n) (i .a) (i .count-is)
-  where
-    end-it : (n a : ℕ) → unsigned 2 (drop 2 s) ≡ ok (n + 1) a → ⊥
-    end-it n a g = let k : ok 0 1 ≡ ok (n + 1) a = sym (zero-is 2 t) ∙ ap (unsigned 2) (sym d) ∙ g in let w : 0 ≡ n + 1 = cc in omega arith
+    let g : ok 0 1 ≡ ok (i .n + 1) (i .a) = sym (zero-is 2 t) ∙ ap (unsigned 2) (sym d) ∙ i .count-is in
+    let w : 0 ≡ i .n + 1 = cc in
+    omega arith
 
 -- ---- the theorem
 
@@ -229,17 +221,15 @@ module _ (s : List ℕ) (short : length s ≤ most) where
   not-0-1 : Accepted shape0 s → Accepted shape1 s → ⊥
   not-0-1 a b = omega (arith, uses-0 s (a .x) (length s) (a .whole-read) .1, uses-1 s (b .x) (length s) (b .whole-read) .1)
 
+  -- a count that so few bytes can carry begins with 0
+  not-with-3 : (j : ℕ) → (4 ≤ length (drop 2 s)) × (length s ≡ 6 + be 0 (take 4 (drop 2 s)) * 6 + j) → Accepted shape3 s → ⊥
+  not-with-3 j c b = let d = small (drop 2 s) (c .0) (omega (arith, c .1)) in not-3 s (b .x) (length s) (d .0) (d .1) (b .whole-read)
+
   not-0-3 : Accepted shape0 s → Accepted shape3 s → ⊥
-  not-0-3 a b =
-      let c = uses-0 s (a .x) (length s) (a .whole-read) in
-      let d = small (drop 2 s) (c .0) (omega (arith, c .1)) in
-      not-3 s (b .x) (length s) (d .0) (d .1) (b .whole-read)
+  not-0-3 a = not-with-3 0 (uses-0 s (a .x) (length s) (a .whole-read))
 
   not-1-3 : Accepted shape1 s → Accepted shape3 s → ⊥
-  not-1-3 a b =
-      let c = uses-1 s (a .x) (length s) (a .whole-read) in
-      let d = small (drop 2 s) (c .0) (omega (arith, c .1)) in
-      not-3 s (b .x) (length s) (d .0) (d .1) (b .whole-read)
+  not-1-3 a = not-with-3 4 (uses-1 s (a .x) (length s) (a .whole-read))
 
   pub exclusive : (f g : Era) → Accepted (layoutOf f) s → Accepted (layoutOf g) s → f ≡ g
   exclusive bare bare a b = refl

@@ -13,17 +13,7 @@ use Rattle.layout.proofs.Every.{All}
 abbrev pub Other : ℕ → List ℕ → Type 0
 Other c r = getD r 0 0 ≢ c
 
-here : (c : ℕ) (r : List ℕ) (rows : List (List ℕ)) → getD r 0 0 ≡ c → firstRow c (r ∷ rows) ≡ some r
-unfolding firstRow
-here c r rows e = rw (eq-eqb (getD r 0 0) c e)
-
-past : (c : ℕ) (r : List ℕ) (rows : List (List ℕ)) → Other c r → firstRow c (r ∷ rows) ≡ firstRow c rows
-unfolding firstRow
-past c r rows e = rw (ne-eqb (getD r 0 0) c e)
-
-behind : (c : ℕ) (before rows : List (List ℕ)) → All (Other c) before → firstRow c (before ++ rows) ≡ firstRow c rows
-behind c [] rows h = refl
-behind c (r ∷ before) rows h = past c r (before ++ rows) (h .0) ∙ behind c before rows (h .1)
-
 pub first-decides : (c : ℕ) (before : List (List ℕ)) (r : List ℕ) (after : List (List ℕ)) → All (Other c) before → getD r 0 0 ≡ c → firstRow c (before ++ r ∷ after) ≡ some r
-first-decides c before r after h e = behind c before (r ∷ after) h ∙ here c r after e
+unfolding firstRow
+first-decides c [] r after h e = rw (eq-eqb (getD r 0 0) c e)
+first-decides c (q ∷ before) r after h e = rw (ne-eqb (getD q 0 0) c (h .0)) (first-decides c before r after (h .1) e)

@@ -320,18 +320,16 @@ module _ (q : Bool) (l : Shape) (N : ℕ) (lent : List ℕ) (st : Tables) (msg :
     back = rowsOf (rowWidth (kindOf t l)) (getD (d .st) t [])
 
     rows-read : map (row (asIs msg) (kindOf t l)) (rowsOf (rowWidth (kindOf t l)) (getD (d .st) t [])) ≡ rowsHeld t l (told (asIs msg) l 0 (d .st) .0)
-    rows-read = go (tables-hold q l N msg (d .st) n first names free tree (d .reads))
-      where
-        go : Holds q l msg n (d .st) → map (row (asIs msg) (kindOf t l)) (rowsOf (rowWidth (kindOf t l)) (getD (d .st) t [])) ≡ rowsHeld t l (told (asIs msg) l 0 (d .st) .0)
-        go c =
-            let x = c .x in
-            let w = rows-wide (λ u. rowWidth (kindOf u l)) t l x (kinds-wide l l kinds) in
-            let a : rowsOf (rowWidth (kindOf t l)) (getD (d .st) t []) ≡ rowsIn t l x = ap (rowsOf (rowWidth (kindOf t l))) (c .others t apart) ∙ rows-back (rowWidth (kindOf t l)) (rowsIn t l x) wide w in
-            let r : ok (d .st) n ≡ ok (keep append l 0 x (replicate N [])) n = sym (d .reads) ∙ link q append l 0 (replicate N []) .law 0 msg ∙ ap (over (λ x. keep append l 0 x (replicate N []))) (c .reads) in
-            let i : d .st ≡ keep append l 0 x (replicate N []) = cc in
-            let s = Parts.shown minus q l msg x n small eats (c .reads) in
-            let g = ap (told (asIs msg) l 0) (i ∙ same-tables N l 0 x) ∙ holds msg N (λ t. t .0 + t .1 ≤ length msg) l 0 x first names (s .inside-it) .law (replicate N []) (length-replicate N []) in
-            ap (map (row (asIs msg) (kindOf t l))) a ∙ sym (rows-of msg t (kindOf t l) l x (alike t l l kinds)) ∙ ap (λ (y : Held l × Tables). rowsHeld t l (y .0)) (sym g)
+    rows-read =
+        let c = tables-hold q l N msg (d .st) n first names free tree (d .reads) in
+        let x = c .x in
+        let w = rows-wide (λ u. rowWidth (kindOf u l)) t l x (kinds-wide l l kinds) in
+        let a : rowsOf (rowWidth (kindOf t l)) (getD (d .st) t []) ≡ rowsIn t l x = ap (rowsOf (rowWidth (kindOf t l))) (c .others t apart) ∙ rows-back (rowWidth (kindOf t l)) (rowsIn t l x) wide w in
+        let r : ok (d .st) n ≡ ok (keep append l 0 x (replicate N [])) n = sym (d .reads) ∙ link q append l 0 (replicate N []) .law 0 msg ∙ ap (over (λ x. keep append l 0 x (replicate N []))) (c .reads) in
+        let i : d .st ≡ keep append l 0 x (replicate N []) = cc in
+        let s = Parts.shown minus q l msg x n small eats (c .reads) in
+        let g = ap (told (asIs msg) l 0) (i ∙ same-tables N l 0 x) ∙ holds msg N (λ t. t .0 + t .1 ≤ length msg) l 0 x first names (s .inside-it) .law (replicate N []) (length-replicate N []) in
+        ap (map (row (asIs msg) (kindOf t l))) a ∙ sym (rows-of msg t (kindOf t l) l x (alike t l l kinds)) ∙ ap (λ (y : Held l × Tables). rowsHeld t l (y .0)) (sym g)
 
     pub rows-settled : t < length st → map (shownRow msg K) back ≡ map (settledRow lent K) (chunks (length back) (rowWidth K) (getD st t []))
     unfolding shown settled
