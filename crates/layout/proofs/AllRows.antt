@@ -29,22 +29,16 @@ use Rattle.layout.proofs.Trip.{Laid}
 -- ---- what a row asks of a table, told from what is shown of the row
 
 -- how many pieces are shown of a field
-unfoldable pieces : Basic → ℕ
-pieces (number w) = 1
-pieces boolean = 1
-pieces level = 1
-pieces natural = 1
-pieces (text z) = cond (keeps z) 2 1
-pieces (blob z) = cond (keeps z) 2 1
-pieces (optional d k) = suc (pieces k)
+abbrev pieces : Basic → ℕ
+pieces k = length (shownCells [] k [])
 
-span-pieces : (b : List ℕ) (t : Bool) (cs : List ℕ) → length (shownSpan b t cs) ≡ cond t 2 1
+span-pieces : (b : List ℕ) (t : Bool) (cs : List ℕ) → length (shownSpan b t cs) ≡ length (shownSpan [] t [])
 unfolding shownSpan
 span-pieces b true cs = refl
 span-pieces b false cs = refl
 
 shown-pieces : (b : List ℕ) (k : Basic) (cs : List ℕ) → length (shownCells b k cs) ≡ pieces k
-unfolding shownCells pieces
+unfolding shownCells
 shown-pieces b (number w) cs = refl
 shown-pieces b boolean cs = refl
 shown-pieces b level cs = refl
@@ -53,13 +47,13 @@ shown-pieces b (text z) cs = span-pieces b (keeps z) cs
 shown-pieces b (blob z) cs = span-pieces b (keeps z) cs
 shown-pieces b (optional d k) cs = ap suc (shown-pieces b k (drop 1 cs))
 
-back-pieces : (b : List ℕ) (t : Bool) (cs : List ℕ) → length (settledSpan b t cs) ≡ cond t 2 1
-unfolding settledSpan
+back-pieces : (b : List ℕ) (t : Bool) (cs : List ℕ) → length (settledSpan b t cs) ≡ length (shownSpan [] t [])
+unfolding settledSpan shownSpan
 back-pieces b true cs = by-test (eqb (getD cs 0 0) 2) (λ e. rw e (span-pieces b true cs)) (λ e. rw e)
 back-pieces b false cs = span-pieces b false cs
 
 settled-pieces : (b : List ℕ) (k : Basic) (cs : List ℕ) → length (settledCells b k cs) ≡ pieces k
-unfolding settledCells shownCells pieces
+unfolding settledCells shownCells
 settled-pieces b (number w) cs = refl
 settled-pieces b boolean cs = refl
 settled-pieces b level cs = refl
@@ -69,14 +63,14 @@ settled-pieces b (blob z) cs = back-pieces b (keeps z) cs
 settled-pieces b (optional d k) cs = ap suc (settled-pieces b k (cond (eqb (getD cs 0 0) 0) d (drop 1 cs)))
 
 gone-pieces : (k : Basic) → length (gone k) ≡ pieces k
-unfolding gone pieces
+unfolding gone shownCells
 gone-pieces (number w) = refl
 gone-pieces boolean = refl
 gone-pieces level = refl
 gone-pieces natural = refl
-gone-pieces (text z) = shown-pieces [] (text z) []
-gone-pieces (blob z) = shown-pieces [] (blob z) []
-gone-pieces (optional d k) = shown-pieces [] (optional d k) []
+gone-pieces (text z) = refl
+gone-pieces (blob z) = refl
+gone-pieces (optional d k) = refl
 
 abbrev numOf : Shown → ℕ
 numOf (num n) = n

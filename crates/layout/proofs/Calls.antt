@@ -20,7 +20,8 @@ use Rattle.layout.specs.Answers.{Answer, Message, accepted, body, ended,
 use Rattle.layout.proofs.Contents.{Holds, rows-needed, rows-wide, rowsIn, tables-hold}
 use Rattle.layout.proofs.Every.{Every}
 use Rattle.layout.proofs.Link.{keep, link, over, under}
-use Rattle.layout.proofs.Local.{Local, local-flag, local-read, local-unsigned, not-ok, passed}
+use Rattle.layout.proofs.Local.{Local, local-flag, local-read, local-unsigned, not-ok}
+use Rattle.layout.proofs.Steps.{passed}
 use Rattle.layout.proofs.Parts.{shown}
 use Rattle.layout.proofs.Proper.{owed, proper, width-same, widthAt}
 use Rattle.layout.proofs.Tests.{by-test, le-false, le-true, lt-false, of-ge, of-le}

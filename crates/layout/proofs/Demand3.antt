@@ -18,7 +18,7 @@ use Rattle.layout.specs.Tables.{Tables, append, readRows}
 use Rattle.layout.specs.Answers.{accepted, body, made, meant, most, refused, seen, shape, wholeRead, writeAnswer}
 use Rattle.layout.specs.Messages.ApiVersions as Api
 use Rattle.layout.proofs.AllRows.{good-again}
-use Rattle.layout.proofs.Calls.{ComesBack, Seen, comes-back, read-inv, read-refused, seen-fits, seen-inv}
+use Rattle.layout.proofs.Calls.{ComesBack, comes-back, read-inv, read-refused, seen-fits, seen-inv}
 use Rattle.layout.proofs.Strict.{Bytes, canonical, strict}
 use Rattle.layout.proofs.Clean.{Plain, yields-read}
 use Rattle.layout.proofs.Exclusive.{Accepted, Era, bare, eraOf, exclusive, flexible, layout-is, layoutOf, throttled}

@@ -14,7 +14,7 @@ use Rattle.layout.specs.Read.{byBytes, read, readBasic}
 use Rattle.layout.specs.Answers.{most, shape}
 use Rattle.layout.proofs.Tests.{nonzero}
 use Rattle.layout.proofs.Local.{not-ok}
-use Rattle.layout.proofs.Steps.{Number, Pair, checked-inv, checked-some, int-inv, int-ok, many-none, many-uncons, pair-inv, split}
+use Rattle.layout.proofs.Steps.{Number, checked-inv, checked-some, int-inv, int-ok, many-none, many-uncons, pair-inv, split}
 use Rattle.layout.specs.Messages.ApiVersions as Api
 
 -- ---- the layouts of the four versions

@@ -1,6 +1,7 @@
 -- The tables of a read are tables that can be written: 13 is not given for them. For every shape.
-use mathlib.Core.Bool.{Bool, _&&_, cond, false, true}
+use mathlib.Core.Bool.{Bool, _&&_, cond, false, true, true≢false}
 use mathlib.Core.List.{List, [], _++_, _∷_}
+use mathlib.Core.Logic.{_≢_}
 use mathlib.Core.Option.{none, some}
 use mathlib.Core.Path.{_∙_, _≡_, ap, refl, subst, sym}
 use Prim.Native.Nat.{_+_, _<_, _^_, _≤_, suc, ℕ}
@@ -9,17 +10,17 @@ use native.Mathlib.Omega.{arith}
 use lib.Dec.{eqb, leb·zero, lit<}
 use lib.ListN.{getD, length, length-append, replicate}
 use lib.Seq.{drop-at}
-use borrow.Author.Tests.{eq-eqb, ne-eqb}
-use Rattle.layout.specs.Primitives.{Maybe, Size, compact, empty, fixed, keeps, kept, minus, never, plain}
+use borrow.Author.Tests.{eq-eqb}
+use Rattle.layout.specs.Primitives.{Maybe, Null, Size, compact, empty, fixed, isKept, keeps, kept, minus, never, plain}
 use Rattle.layout.specs.Rows.{Basic, BasicValue, Shape, Value, absent, array, blob, boolean, end, field, lacking, level, natural, number, optional, text}
-use Rattle.layout.specs.Tables.{Span, Tables, absentCells, absentCount, addsUp, all, asked, cells, count, from, good, goodCells, goodCount, goodRow, goodSpan, inside, kindOf, lacks, rowWidth, rowsAt, rowsOf, span, sum, width}
+use Rattle.layout.specs.Tables.{Span, Tables, absentCells, absentCount, absentItems, addsUp, all, asked, cells, count, from, good, goodCells, goodCount, goodRow, goodSpan, inside, kindOf, lacks, rowWidth, rowsAt, rowsOf, span, sum, width}
 use Rattle.layout.proofs.Contents.{Free, Holds, Tree, Wide, flatten, free-rows, rowCells, rows-back, rows-wide, rowsIn}
 use Rattle.layout.proofs.Decode.{absent-width, cells-width, count-is, count-list}
 use Rattle.layout.proofs.Every.{All, Every, EveryBasic, EveryMaybe, Few, Within, all-append, few-list, listOf}
 use Rattle.layout.proofs.Link.{itemsCell}
 use Rattle.layout.proofs.Parts.{Eating, shown}
 use Rattle.layout.proofs.Sums.{length-flatten, one-of, sum-add, sum-append, sum-eq, sum-flatten, sum-ones, sum-same, sum-swap, sum-zero}
-use Rattle.layout.proofs.Tests.{by-test, le-true, lt-true, nonzero, not-minus, of-eq, of-ne}
+use Rattle.layout.proofs.Tests.{by-test, le-true, lt-true, not-minus, of-eq, of-ne}
 
 both-true : (a b : Bool) → a ≡ true → b ≡ true → (a && b) ≡ true
 both-true a b h g = rw (h, g)
@@ -49,6 +50,11 @@ kinds-wide L (field k r) h = kinds-wide L r h
 kinds-wide L (absent k r) h = kinds-wide L r h
 kinds-wide L (array z u i r) h = (ap rowWidth (h .0), kinds-wide L i (h .1), kinds-wide L r (h .2))
 kinds-wide L (lacking z u i r) h = kinds-wide L r h
+
+no-items : (m : Null) → isKept m ≡ false → absentItems m ≡ 0
+no-items never e = refl
+no-items kept e = absurd (true≢false e)
+no-items empty e = refl
 
 -- ---- rows: ranges inside, counts good
 
@@ -107,12 +113,8 @@ module _ (size : ℕ) where
 
   -- the count of an array that the version lacks
   good-lacking : (z : Size) → keeps z ≡ false → goodCount (lacks z) (absentCount z) ≡ true
-  good-lacking (fixed w never) e = good-number false 0 (lit< tt)
-  good-lacking (fixed w kept) e = let z : _≡_ {A = ℕ} 0 1 = cc in absurd (omega arith)
-  good-lacking (fixed w empty) e = good-number false 0 (lit< tt)
-  good-lacking (compact never) e = good-number false 0 (lit< tt)
-  good-lacking (compact kept) e = let z : _≡_ {A = ℕ} 0 1 = cc in absurd (omega arith)
-  good-lacking (compact empty) e = good-number false 0 (lit< tt)
+  good-lacking (fixed w m) e = rw (no-items m e) (good-number (isKept m) 0 (lit< tt))
+  good-lacking (compact m) e = rw (no-items m e) (good-number (isKept m) 0 (lit< tt))
   good-lacking plain e = good-minus
 
   good-row : (l : Shape) (x : Value Span l) → NoNull l → Every half InSize l x → goodRow size l (rowCells l x) ≡ true
@@ -153,16 +155,9 @@ module _ (size : ℕ) where
 
 -- an array that the version lacks asks for no rows
 lacking-count : (z : Size) → keeps z ≡ false → count (absentCount z) ≡ 0
-lacking-count (fixed w never) e = count-is 0 (lit< tt)
-lacking-count (fixed w kept) e = let z : _≡_ {A = ℕ} 0 1 = cc in absurd (omega arith)
-lacking-count (fixed w empty) e = count-is 0 (lit< tt)
-lacking-count (compact never) e = count-is 0 (lit< tt)
-lacking-count (compact kept) e = let z : _≡_ {A = ℕ} 0 1 = cc in absurd (omega arith)
-lacking-count (compact empty) e = count-is 0 (lit< tt)
+lacking-count (fixed w m) e = rw (no-items m e) (count-is 0 (lit< tt))
+lacking-count (compact m) e = rw (no-items m e) (count-is 0 (lit< tt))
 lacking-count plain e = unfold count in refl
-
-swapped : (v : ℕ) → eqb 0 v ≡ false → eqb v 0 ≡ false
-swapped v e = ne-eqb v 0 (λ d. of-ne 0 v e (sym d))
 
 -- t: the table whose rows are asked for; L names what the rows of each table are, n tables in all
 module _ (P : Span → Type 0) (L : Shape) (n t : ℕ) where
@@ -210,7 +205,7 @@ module _ (P : Span → Type 0) (L : Shape) (n t : ℕ) where
       ap (λ (cs : List ℕ). asked t r cs + sum (λ u. sum (asks u) (rowsIn u r x)) (from 1 n)) (drop-at (absentCells c) (rowCells r x) (width c) (absent-width c)) ∙ adds r x w f s k z h
   adds (array b v i r) x w f s k z h =
       let xs = listOf (keeps b) (x .0) in
-      let low : 1 ≤ v = nonzero v (swapped v (f .0)) in
+      let low : 1 ≤ v = (let g : 0 ≢ v = of-ne 0 v (f .0) in omega arith) in
       let high : v < 1 + n = (let g = w .0 in omega arith) in
       let few = few-list half (Every half P i) (keeps b) (x .0) (lit< tt) (h .0) in
       array-adds _ _ _ _ _ _ _ _ _ _
@@ -237,14 +232,10 @@ pub record Writable (n : ℕ) (l : Shape) : Type 0 where
   -- every lent table has rows
   pub named : All (λ t. (eqb t 0 ≡ false) × (0 < rowWidth (kindOf t l))) (from 1 n)
 
-all-true : {A : Type 0} (p : A → Bool) (xs : List A) → All (λ x. p x ≡ true) xs → all p xs ≡ true
+all-true : {A : Type 0} (P : A → Type 0) (p : A → Bool) → ((x : A) → P x → p x ≡ true) → (xs : List A) → All P xs → all p xs ≡ true
 unfolding all
-all-true p [] h = refl
-all-true p (x ∷ xs) h = both-true _ _ (h .0) (all-true p xs (h .1))
-
-all-map : {A : Type 0} (P Q : A → Type 0) → ((x : A) → P x → Q x) → (xs : List A) → All P xs → All Q xs
-all-map P Q f [] h = tt
-all-map P Q f (x ∷ xs) h = (f x (h .0), all-map P Q f xs (h .1))
+all-true P p f [] h = refl
+all-true P p f (x ∷ xs) h = both-true _ _ (f x (h .0)) (all-true P p f xs (h .1))
 
 module _ (q : Bool) (n : ℕ) (l : Shape) (msg : List ℕ) (k : ℕ) (st : Tables) (W : Writable n l) (H : Holds q l msg k st) (small : length msg < half) where
   abbrev Named : ℕ → Type 0
@@ -259,7 +250,7 @@ module _ (q : Bool) (n : ℕ) (l : Shape) (msg : List ℕ) (k : ℕ) (st : Table
   back t h = ap (rowsOf (rowWidth (kindOf t l))) (H .others t (h .0)) ∙ rows-back (rowWidth (kindOf t l)) (rowsIn t l (H .x)) (h .1) (rows-wide (λ t. rowWidth (kindOf t l)) t l (H .x) (kinds-wide l l (W .kinds)))
 
   rows-are-good : (t : ℕ) → Named t → all (goodRow (length msg) (kindOf t l)) (rowsAt l st t) ≡ true
-  rows-are-good t h = ap (all (goodRow (length msg) (kindOf t l))) (back t h) ∙ all-true _ _ (rows-good (length msg) l t l (H .x) (W .kinds) (W .no-null) every)
+  rows-are-good t h = ap (all (goodRow (length msg) (kindOf t l))) (back t h) ∙ all-true _ _ (λ r h. h) _ (rows-good (length msg) l t l (H .x) (W .kinds) (W .no-null) every)
 
   counts-add-up : (t : ℕ) → Named t → addsUp (length msg) n l st t ≡ true
   unfolding addsUp
@@ -275,4 +266,4 @@ module _ (q : Bool) (n : ℕ) (l : Shape) (msg : List ℕ) (k : ℕ) (st : Table
   unfolding good
   read-good =
       both-true _ _ (ap (goodRow (length msg) l) (H .own-row) ∙ good-row (length msg) l (H .x) (W .no-null) every)
-      (both-true _ _ (all-true _ _ (all-map Named _ rows-are-good (from 1 n) (W .named))) (all-true _ _ (all-map Named _ counts-add-up (from 1 n) (W .named))))
+      (both-true _ _ (all-true Named _ rows-are-good (from 1 n) (W .named)) (all-true Named _ counts-add-up (from 1 n) (W .named)))

@@ -1,26 +1,18 @@
 -- What a reader accepts rests on the bytes that it used, and on no other: for every shape and every codec whose own readers are so.
-use mathlib.Core.Bool.{Bool, cond, false, true}
+use mathlib.Core.Bool.{Bool, false, true}
 use mathlib.Core.List.{List, _++_, append-assoc}
-use mathlib.Core.Path.{_∙_, _≡_, ap, refl, subst}
+use mathlib.Core.Path.{_∙_, _≡_, ap, sym}
 use Prim.Native.Nat.{_+_, _≤_, ℕ}
 use native.Mathlib.Omega.{arith}
 use lib.ListN.{drop, length, length-append, length-drop, take}
 use lib.Seq.{drop-at, length-take-le, take-add, take-at}
-use Rattle.layout.specs.Reading.{Reader, Refusal, Res, bad, fail, give, here, more, next, ok, pick, placed, primitive, raw, then}
+use Rattle.layout.specs.Reading.{Reader, fail, give, here, ok, pick, placed, primitive, raw, then}
 use Rattle.layout.specs.Primitives.{checked, flag, unsigned}
 use Rattle.layout.specs.Rows.{Basic, Shape}
 use Rattle.layout.specs.Read.{Codec, read, readBasic}
 use Rattle.layout.proofs.Kept.{Kept, kept-basic, kept-flag, kept-read, kept-unsigned}
-use Rattle.layout.proofs.Tests.{le-true, of-le}
-
--- a refusal is no answer
-pub not-ok : {A X : Type 0} {e : Refusal} {x : A} {n : ℕ} → bad e ≡ ok x n → X
-not-ok h = let z : _≡_ {A = ℕ} 0 1 = cc in absurd (omega arith)
-
--- what is accepted has passed its tests
-pub passed : {A : Type 0} (b : Bool) (o : Res A) (e : Refusal) (x : A) (n : ℕ) → cond b o (bad e) ≡ ok x n → (b ≡ true) × (o ≡ ok x n)
-passed true o e x n h = (refl, h)
-passed false o e x n h = not-ok h
+use Rattle.layout.proofs.Steps.{primitive-inv, raw-inv, split}
+pub use Rattle.layout.proofs.Steps.{not-ok, raw-ok}
 
 pub record Same {A : Type 0} (r : Reader A) (p : ℕ) (s : List ℕ) (x : A) (n : ℕ) : Type 0 where
   pub fits : n ≤ length s
@@ -48,59 +40,33 @@ local-here r h = record { law = λ p s x n e. let k = h p .law p s x n e in reco
 
 pub local-primitive : {A : Type 0} (r : Reader A) → Local r → Local (primitive r)
 unfolding primitive
-local-primitive {A} r h = record { law = λ p s x n e. go p s x n (r p s) refl e }
-  where
-    go : (p : ℕ) (s : List ℕ) (x : A) (n : ℕ) (o : Res A) → r p s ≡ o → placed p o ≡ ok x n → Same (primitive r) p s x n
-    go p s x n (ok y m) d e =
-        let k = h .law p s x n (d ∙ e) in
-        record { fits = k .fits; same = λ t. ap (placed p) (k .same t) }
-    go p s x n (bad c) d e = not-ok e
-
-pub raw-ok : (n p : ℕ) (s : List ℕ) → n ≤ length s → raw n p s ≡ ok (take n s) n
-unfolding raw
-raw-ok n p s h = rw (le-true n (length s) h)
+local-primitive r h = record { law = λ p s x n e. let k = h .law p s x n (primitive-inv r p s x n e) in record { fits = k .fits; same = λ t. ap (placed p) (k .same t) } }
 
 pub local-raw : (n : ℕ) → Local (raw n)
-unfolding raw
 local-raw n = record {
   law = λ p s x m e.
-      let a = passed _ _ _ x m e in
-      let c = a .1 in
-      let h : n ≤ length s = of-le _ _ (a .0) in
-      let i : n ≡ m = cc in
-      let j : take n s ≡ x = cc in
-      record {
-        fits = omega arith;
-        same = λ t.
-            let l = length-take-le n s h in
-            let g : n ≤ length (take n s ++ t) = rw length-append (omega arith) in
-            rw (← i, ← j) (raw-ok n p (take n s ++ t) g ∙ ap (λ (u : List ℕ). ok u n) (take-at (take n s) t n l));
-      };
+      let r = raw-inv n p s x m e in
+      let l = length-take-le n s (r .fits) in
+      rw (r .is, r .used)
+      (record { fits = r .fits; same = λ t. raw-ok n p (take n s ++ t) (rw length-append (omega arith)) ∙ ap (λ (u : List ℕ). ok u n) (take-at (take n s) t n l) });
 }
 
 pub local-then : {A B : Type 0} (r : Reader A) (f : A → Reader B) → Local r → ((x : A) → Local (f x)) → Local (then r f)
 unfolding then
-local-then {A} {B} r f hr hf = record { law = λ p s y m e. go p s y m (r p s) refl e }
-  where
-    join : (p : ℕ) (s : List ℕ) (y : B) (x : A) (n k : ℕ) → Same r p s x n → Same (f x) (p + n) (drop n s) y k → Same (then r f) p s y (n + k)
-    join p s y x n k a b = record {
-      fits = let h = a .fits in let g = b .fits in omega (arith, length-drop n s);
-      same = λ t.
-          let w = take k (drop n s) ++ t in
-          let c : take (n + k) s ++ t ≡ take n s ++ w = rw (take-add, append-assoc) in
-          let l : length (take n s) ≡ n = length-take-le n s (a .fits) in
-          rw c (rw (a .same w) (rw (drop-at (take n s) w n l) (ap (more n) (b .same t))));
-    }
-
-    inner : (p : ℕ) (s : List ℕ) (y : B) (m : ℕ) (x : A) (n : ℕ) → r p s ≡ ok x n → (o : Res B) → f x (p + n) (drop n s) ≡ o → more n o ≡ ok y m → Same (then r f) p s y m
-    inner p s y m x n d (ok z k) c e =
-        subst (λ (w : ℕ). Same (then r f) p s y w) (cc)
-        (join p s y x n k (hr .law p s x n d) (hf x .law (p + n) (drop n s) y k (c ∙ cc)))
-    inner p s y m x n d (bad w) c e = not-ok e
-
-    go : (p : ℕ) (s : List ℕ) (y : B) (m : ℕ) (o : Res A) → r p s ≡ o → next o f p s ≡ ok y m → Same (then r f) p s y m
-    go p s y m (ok x n) d e = inner p s y m x n d (f x (p + n) (drop n s)) refl e
-    go p s y m (bad c) d e = not-ok e
+local-then r f hr hf = record {
+  law = λ p s y m e.
+      let d = split r f p s y m e in
+      let a = hr .law p s (d .x) (d .n) (d .first) in
+      let b = hf (d .x) .law (p + d .n) (drop (d .n) s) y (d .k) (d .second) in
+      record {
+        fits = omega (arith, d .sum, a .fits, b .fits, length-drop (d .n) s);
+        same = λ t.
+            let w = take (d .k) (drop (d .n) s) ++ t in
+            let c : take m s ++ t ≡ take (d .n) s ++ w = ap (λ (j : ℕ). take j s ++ t) (d .sum) ∙ rw (take-add, append-assoc) in
+            let l = length-take-le (d .n) s (a .fits) in
+            rw (c, a .same w, drop-at (take (d .n) s) w (d .n) l, b .same t) (ap (λ (j : ℕ). ok y j) (sym (d .sum)));
+      };
+}
 
 -- every step is local, and so is what is made of steps
 pub locals : Kept (λ A r q. Local r)

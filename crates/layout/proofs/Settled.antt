@@ -18,7 +18,7 @@ use Rattle.layout.proofs.Every.{Every, EveryMaybe, Few, Within, few-lis
 use Rattle.layout.proofs.Parts.{Eating}
 use Rattle.layout.proofs.Parts as Parts
 use Rattle.layout.proofs.Same.{lay, layAll, same-tables}
-use Rattle.layout.proofs.Tests.{of-eq}
+use Rattle.layout.proofs.Tests.{by-test, of-eq}
 use Rattle.layout.proofs.Trip.{Laid}
 
 -- ---- tables as a whole, followed as their counts say
@@ -175,12 +175,7 @@ module _ (b : List ℕ) (N : ℕ) (P : Span → Type 0) where
 module _ (lent : List ℕ) where
   settled-span : (t : Bool) (cs : List ℕ) → settledSpan lent t cs ≡ ofSpan t (spanOf lent t cs)
   unfolding settledSpan spanOf shownSpan
-  settled-span true cs = go (eqb (getD cs 0 0) 2) refl
-    where
-      go : (e : Bool) → eqb (getD cs 0 0) 2 ≡ e →
-          cond e (num (getD cs 0 0) ∷ part (slice lent (getD cs 1 0, getD cs 2 0)) ∷ []) (num 1 ∷ part [] ∷ []) ≡ ofSpan true (cond e (some (slice lent (getD cs 1 0, getD cs 2 0))) none)
-      go true d = ap (λ (n : ℕ). num n ∷ part (slice lent (getD cs 1 0, getD cs 2 0)) ∷ []) (of-eq _ _ d)
-      go false d = refl
+  settled-span true cs = by-test (eqb (getD cs 0 0) 2) (λ d. rw (d, of-eq (getD cs 0 0) 2 d)) (λ d. rw d)
   settled-span false cs = refl
 
   chosen-is : (d cs : List ℕ) → cond (eqb (getD cs 0 0) 0) d (drop 1 cs) ≡ chosen d cs
@@ -213,29 +208,15 @@ unfolding times
 length-times d zero st = refl
 length-times d (suc n) st = ap suc (length-times d n (d st .1))
 
-of-count : (c : ℕ) → count c ≡ cond (eqb c minus) 0 c
-unfolding count
-of-count c = refl
-
-none-of : {A B : Type 0} (g : A → B) (d : Tables → A × Tables) (st : Tables) → map g (times 0 d st .0) ≡ []
-unfolding times
-none-of g d st = refl
-
 tells-items : {A B : Type 0} (z : Size) (t : Bool) (c : ℕ) (f : Tables → B × Tables) (d : Tables → A × Tables) (g : A → B) → Tells f d g → keeps z ≡ t → (st : Tables) →
     _≡_ {A = (ℕ × List B) × Tables} ((settledCount z c, times (count c) f st .0), times (count c) f st .1)
     ((itemsCell A t (itemsOf t c d st .0), map g (listOf t (itemsOf t c d st .0))), itemsOf t c d st .1)
-unfolding itemsOf settledCount
-tells-items {A} {B} z true c f d g h k st = rw (k, tells-times f d g h (count c) .law st) (go (eqb c minus) refl (count c) (of-count c))
-  where
-    go : (e : Bool) → eqb c minus ≡ e → (n : ℕ) → n ≡ cond e 0 c → _≡_ {A = (ℕ × List B) × Tables} ((c, map g (times n d st .0)), times n d st .1)
-        ((itemsCell A true (cond e none (some (times n d st .0))), map g (listOf true (cond e none (some (times n d st .0))))), times n d st .1)
-    go true e n q = λ i. ((of-eq c minus e i, (ap (λ (m : ℕ). map g (times m d st .0)) q ∙ none-of g d st) i), times n d st .1)
-    go false e n q = λ i. ((sym (length-times d n st ∙ q) i, map g (times n d st .0)), times n d st .1)
+unfolding itemsOf settledCount count times
+tells-items {A} {B} z true c f d g h k st =
+    rw (k, tells-times f d g h (count c) .law st)
+    (by-test (eqb c minus) (λ e. rw e (λ i. ((of-eq c minus e i, []), st))) (λ e. rw e (λ i. ((sym (length-times d c st) i, map g (times c d st .0)), times c d st .1))))
 tells-items {A} {B} z false c f d g h k st =
-    rw (k, tells-times f d g h (count c) .law st) (λ i. ((counted i, map g (times (count c) d st .0)), times (count c) d st .1))
-  where
-    counted : cond (eqb c minus) 0 c ≡ length (times (count c) d st .0)
-    counted = sym (length-times d (count c) st ∙ of-count c)
+    rw (k, tells-times f d g h (count c) .law st) (λ i. ((sym (length-times d (count c) st) i, map g (times (count c) d st .0)), times (count c) d st .1))
 
 -- settled, the tables hold the value that they mean
 settles : (lent : List ℕ) (l : Shape) (o : ℕ) → Tells (told (asBack lent) l o) (valueOf lent l o) (ofValue l)

@@ -1,13 +1,12 @@
 -- The rows of the tables, each by itself: what is told of tables as a whole is told of their rows one by one. For every shape.
 use mathlib.Core.Bool.{Bool, cond, false, true}
-use mathlib.Core.List.{List, [], _++_, _∷_, map, map-append, map-map}
+use mathlib.Core.List.{List, [], _++_, _∷_, map, map-append, map-congr-left, map-map}
 use mathlib.Core.Path.{_∙_, _≡_, ap, refl, subst, sym}
 use Prim.Native.Nat.{_+_, _<_, _≤_, suc, zero, ℕ}
 use native.Mathlib.Omega.{arith}
 use lib.Dec.{eqb}
 use lib.ListN.{drop, getD, length, length-map, length-replicate, length-set, replicate, take}
-use native.Mathlib.Nat.{suc-add, zero-add}
-use lib.Seq.{drop-at, drop-drop, getD-set-other, getD-set-same, take-at, take-nil, take-take}
+use lib.Seq.{drop-at, drop-drop, getD-set-other, getD-set-same, getD-take, take-at, take-take}
 use Rattle.layout.specs.Reading.{ok}
 use Rattle.layout.specs.Primitives.{Maybe, keeps, minus}
 use Rattle.layout.specs.Rows.{Shape, Value, absent, array, end, field, lacking}
@@ -15,7 +14,8 @@ use Rattle.layout.specs.Tables.{Span, Tables, absentCells, append, cells
 use Rattle.layout.specs.Answers.{meant}
 use Rattle.layout.specs.Settled.{Shown, gone, goneCount, num, settledCells, settledCount, settledRow, shownCells, shownRow}
 use Rattle.layout.proofs.Link.{keep, link, list-map, mapMaybe, mapValue, over}
-use Rattle.layout.proofs.Contents.{Free, Holds, Tree, flatten, rowCells, rows-back, rows-wide, rowsIn, tables-hold}
+use Rattle.layout.proofs.Chunks.{drop-take}
+use Rattle.layout.proofs.Contents.{Free, Tree, flatten, rowCells, rows-back, rows-wide, rowsIn, tables-hold}
 use Rattle.layout.proofs.Decode.{absent-width, cells-width}
 use Rattle.layout.proofs.Every.{Within, listOf}
 use Rattle.layout.proofs.Good.{Kinds, kinds-wide}
@@ -44,17 +44,8 @@ pop-row : (o w : ℕ) (st : Tables) → pop o w st .0 ≡ take w (getD st o [])
 unfolding pop
 pop-row o w st = refl
 
-first-cell : (cs : List ℕ) → getD (take 1 cs) 0 0 ≡ getD cs 0 0
-first-cell [] = refl
-first-cell (c ∷ cs) = refl
-
 drop-one : (n : ℕ) (cs : List ℕ) → drop n (drop 1 cs) ≡ drop (suc n) cs
 drop-one n cs = let e : 1 + n ≡ suc n = omega arith in drop-drop n 1 cs ∙ ap (λ (k : ℕ). drop k cs) e
-
-drop-of : (a b : ℕ) (cs : List ℕ) → drop a (take (a + b) cs) ≡ take b (drop a cs)
-drop-of zero b cs = ap (λ (n : ℕ). take n cs) (zero-add b)
-drop-of (suc a) b [] = rw (suc-add a b) (sym (take-nil b))
-drop-of (suc a) b (c ∷ cs) = rw (suc-add a b) (drop-of a b cs)
 
 -- ---- one row
 
@@ -81,10 +72,6 @@ row-settled b (field k r) cs = ap (λ (s : List Shown). settledCells b k (take (
 row-settled b (absent k r) cs = ap (λ (s : List Shown). gone k ++ s) (row-settled b r (drop (width k) cs))
 row-settled b (array z t i r) cs = ap (λ (s : List Shown). num (settledCount z (getD cs 0 0)) ∷ s) (row-settled b r (drop 1 cs))
 row-settled b (lacking z t i r) cs = ap (λ (s : List Shown). num (goneCount z) ∷ s) (row-settled b r (drop 1 cs))
-
-map-same : {A B : Type 0} (f g : A → B) → ((x : A) → f x ≡ g x) → (xs : List A) → map f xs ≡ map g xs
-map-same f g e [] = refl
-map-same f g e (x ∷ xs) = λ i. e x i ∷ map-same f g e xs i
 
 -- ---- the own row and the other rows of what is told
 
@@ -157,12 +144,12 @@ module _ (h : Telling) where
   own-row (array z t i r) o st a f =
       let S = pop o 1 st .1 in
       let n = count (getD (pop o 1 st .0) 0 0) in
-      let c : getD (pop o 1 st .0) 0 0 ≡ getD (getD st o []) 0 0 = ap (λ (cs : List ℕ). getD cs 0 0) (pop-row o 1 st) ∙ first-cell (getD st o []) in
+      let c : getD (pop o 1 st .0) 0 0 ≡ getD (getD st o []) 0 0 = ap (λ (cs : List ℕ). getD cs 0 0) (pop-row o 1 st) ∙ getD-take 1 (getD st o []) 0 0 (omega arith) in
       let e : getD (times n (told h i t) S .1) o [] ≡ drop 1 (getD st o []) = times-leave o (told h i t) (λ su. leaves o i t su (f .0) (f .1)) n S ∙ pop-same o 1 st a in
       let b : o < length (times n (told h i t) S .1) = subst (λ (m : ℕ). o < m) (sym (length-times (told h i t) (length-told i t) n S ∙ length-pop o 1 st)) a in
       λ j. num (h .countOf z (c j)) ∷ (own-row r o (times n (told h i t) S .1) b (f .2) ∙ ap (row h r) e) j
   own-row (lacking z t i r) o st a f =
-      let c : getD (pop o 1 st .0) 0 0 ≡ getD (getD st o []) 0 0 = ap (λ (cs : List ℕ). getD cs 0 0) (pop-row o 1 st) ∙ first-cell (getD st o []) in
+      let c : getD (pop o 1 st .0) 0 0 ≡ getD (getD st o []) 0 0 = ap (λ (cs : List ℕ). getD cs 0 0) (pop-row o 1 st) ∙ getD-take 1 (getD st o []) 0 0 (omega arith) in
       λ j. num (h .lackedOf z (c j)) ∷ (own-row r o (pop o 1 st .1) (subst (λ (n : ℕ). o < n) (sym (length-pop o 1 st)) a) f ∙ ap (row h r) (pop-same o 1 st a)) j
 
   own-left : (l : Shape) (o : ℕ) (st : Tables) → o < length st → Free o l → getD (told h l o st .1) o [] ≡ drop (rowWidth l) (getD st o [])
@@ -185,8 +172,8 @@ module _ (h : Telling) where
   row-front : (l : Shape) (cs : List ℕ) → row h l (take (rowWidth l) cs) ≡ row h l cs
   unfolding row rowWidth
   row-front end cs = refl
-  row-front (field k r) cs = λ i. h .cellsOf k (take-take (width k) (width k + rowWidth r) cs (omega arith) i) ++ (ap (row h r) (drop-of (width k) (rowWidth r) cs) ∙ row-front r (drop (width k) cs)) i
-  row-front (absent k r) cs = λ i. h .absentOf k (take-take (width k) (width k + rowWidth r) cs (omega arith) i) ++ (ap (row h r) (drop-of (width k) (rowWidth r) cs) ∙ row-front r (drop (width k) cs)) i
+  row-front (field k r) cs = λ i. h .cellsOf k (take-take (width k) (width k + rowWidth r) cs (omega arith) i) ++ (ap (row h r) (drop-take (width k) (rowWidth r) _ refl cs) ∙ row-front r (drop (width k) cs)) i
+  row-front (absent k r) cs = λ i. h .absentOf k (take-take (width k) (width k + rowWidth r) cs (omega arith) i) ++ (ap (row h r) (drop-take (width k) (rowWidth r) _ refl cs) ∙ row-front r (drop (width k) cs)) i
   row-front (array z t i r) [] = refl
   row-front (array z t i r) (c ∷ cs) = ap (λ (s : List Shown). num (h .countOf z c) ∷ s) (row-front r cs)
   row-front (lacking z t i r) [] = refl
@@ -339,5 +326,5 @@ module _ (q : Bool) (l : Shape) (N : ℕ) (lent : List ℕ) (st : Tables) (msg :
         let a : map (row (asIs msg) K) back ≡ rs = rows-read ∙ ap (λ (x : Held l × Tables). rowsHeld t l (x .0)) e in
         let b : length back ≡ length rs = sym (length-map back (row (asIs msg) K)) ∙ ap length a in
         let c = took-rows (asBack lent) t K rs _ _ (took (asBack lent) t K (length st) low l 0 st refl apart tree (alike t l l kinds)) in
-        map-same (shownRow msg K) (row (asIs msg) K) (row-shown msg K) back ∙ a ∙ c ∙ ap (λ (k : ℕ). map (row (asBack lent) K) (chunks k (rowWidth K) (getD st t []))) (sym b)
-        ∙ sym (map-same (settledRow lent K) (row (asBack lent) K) (row-settled lent K) (chunks (length back) (rowWidth K) (getD st t [])))
+        map-congr-left {l = back} (λ r m. row-shown msg K r) ∙ a ∙ c ∙ ap (λ (k : ℕ). map (row (asBack lent) K) (chunks k (rowWidth K) (getD st t []))) (sym b)
+        ∙ sym (map-congr-left {l = chunks (length back) (rowWidth K) (getD st t [])} (λ r m. row-settled lent K r))

@@ -1,5 +1,5 @@
 -- One step of a reader: what follows from its parts, and what an accepted read says of them.
-use mathlib.Core.Bool.{Bool, false, true}
+use mathlib.Core.Bool.{Bool, cond, false, true, true≢false}
 use mathlib.Core.List.{List, [], _∷_}
 use mathlib.Core.Path.{_∙_, _≡_, ap, refl, sym}
 use Prim.Native.Nat.{_+_, _<_, _≤_, suc, zero, ℕ}
@@ -9,8 +9,16 @@ use lib.Dec.{eqb, leb}
 use lib.ListN.{drop, length, take}
 use Rattle.layout.specs.Reading.{Reader, Refusal, Res, bad, because, fail, give, here, many, more, next, ok, pair, pick, placed, primitive, raw, then}
 use Rattle.layout.specs.Primitives.{be, checked, int}
-use Rattle.layout.proofs.Tests.{le-false, of-eq, of-le}
-use Rattle.layout.proofs.Local.{not-ok, passed, raw-ok}
+use Rattle.layout.proofs.Tests.{le-false, le-true, of-eq, of-le}
+
+-- a refusal is no answer
+pub not-ok : {A X : Type 0} {e : Refusal} {x : A} {n : ℕ} → bad e ≡ ok x n → X
+not-ok h = let z : _≡_ {A = ℕ} 0 1 = cc in absurd (omega arith)
+
+-- what is accepted has passed its tests
+pub passed : {A : Type 0} (b : Bool) (o : Res A) (e : Refusal) (x : A) (n : ℕ) → cond b o (bad e) ≡ ok x n → (b ≡ true) × (o ≡ ok x n)
+passed true o e x n h = (refl, h)
+passed false o e x n h = not-ok h
 
 pub then-ok : {A B : Type 0} (r : Reader A) (f : A → Reader B) (p : ℕ) (s : List ℕ) (x : A) (n : ℕ) → r p s ≡ ok x n → then r f p s ≡ more n (f x (p + n) (drop n s))
 unfolding then
@@ -19,6 +27,10 @@ then-ok r f p s x n e = rw e
 pub then-bad : {A B : Type 0} (r : Reader A) (f : A → Reader B) (p : ℕ) (s : List ℕ) (e : Refusal) → r p s ≡ bad e → then r f p s ≡ bad e
 unfolding then
 then-bad r f p s e h = rw h
+
+pub raw-ok : (n p : ℕ) (s : List ℕ) → n ≤ length s → raw n p s ≡ ok (take n s) n
+unfolding raw
+raw-ok n p s h = rw (le-true n (length s) h)
 
 pub raw-bad : (n p : ℕ) (s : List ℕ) → length s < n → raw n p s ≡ bad (because 3 p)
 unfolding raw
@@ -144,16 +156,6 @@ pub length-many : {A : Type 0} (r : Reader A) (n p : ℕ) (s : List ℕ) (xs : L
 length-many r zero p s xs k e = let d = many-none r p s in let y : xs ≡ [] = cc in ap length y
 length-many r (suc n) p s xs k e = let c = many-uncons r n p s xs k e in ap length (c .all) ∙ ap suc (length-many r n _ _ (c .xs) (c .m) (c .rest))
 
-pub checked-some : (e : ℕ) (len : Reader ℕ) (p : ℕ) (s : List ℕ) (x n : ℕ) → checked false e len p s ≡ ok x n → eqb x 0 ≡ false
-unfolding checked pick give fail
-checked-some e len p s x n h =
-    let a = split len _ p s x n (primitive-inv _ p s x n h) in
-    go (a .x) (a .k) (p + a .n) (drop (a .n) s) (eqb (a .x) 0) refl (a .second)
-  where
-    go : (y k q : ℕ) (u : List ℕ) (b : Bool) → eqb y 0 ≡ b → pick b (pick false (give 0) (fail e)) (give y) q u ≡ ok x k → eqb x 0 ≡ false
-    go y k q u true d g = let z : _≡_ {A = ℕ} 0 1 = cc in absurd (omega arith)
-    go y k q u false d g = let w : y ≡ x = cc in ap (λ (m : ℕ). eqb m 0) (sym w) ∙ d
-
 pub record Pair {A B : Type 0} (r : Reader A) (q : Reader B) (p : ℕ) (s : List ℕ) (z : A × B) (m : ℕ) : Type 0 where
   pub n : ℕ
   pub k : ℕ
@@ -177,14 +179,20 @@ pair-inv {A} {B} r q p s z m e =
       sum = omega (arith, a .sum, b .sum);
     }
 
-pub checked-inv : (b : Bool) (e : ℕ) (len : Reader ℕ) (p : ℕ) (s : List ℕ) (x n : ℕ) → checked b e len p s ≡ ok x n → len p s ≡ ok x n
+-- a length that is accepted was read so, and is not null unless null is allowed
+checked-both : (b : Bool) (e : ℕ) (len : Reader ℕ) (p : ℕ) (s : List ℕ) (x n : ℕ) → checked b e len p s ≡ ok x n → (len p s ≡ ok x n) × (b ≡ false → eqb x 0 ≡ false)
 unfolding checked pick give fail
-checked-inv b e len p s x n h =
+checked-both b e len p s x n h =
     let a = split len _ p s x n (primitive-inv _ p s x n h) in
-    a .first ∙ go b (a .x) (a .k) (p + a .n) (drop (a .n) s) (a .n) (a .sum) (eqb (a .x) 0) refl (a .second)
+    go b (a .x) (a .k) (a .n) (a .sum) (a .first) (eqb (a .x) 0) refl (a .second)
   where
-    go : (b : Bool) (y k q : ℕ) (u : List ℕ) (j : ℕ) → n ≡ j + k → (t : Bool) → eqb y 0 ≡ t → pick t (pick b (give 0) (fail e)) (give y) q u ≡ ok x k → ok y j ≡ ok x n
-    go true y k q u j i true d g = let w : 0 ≡ x = cc in let v : 0 ≡ k = cc in let z : y ≡ 0 = of-eq y 0 d in let o : j ≡ n = omega arith in cc
-    go false y k q u j i true d g = let z : _≡_ {A = ℕ} 0 1 = cc in absurd (omega arith)
-    go true y k q u j i false d g = let w : y ≡ x = cc in let v : 0 ≡ k = cc in let o : j ≡ n = omega arith in cc
-    go false y k q u j i false d g = let w : y ≡ x = cc in let v : 0 ≡ k = cc in let o : j ≡ n = omega arith in cc
+    go : (b : Bool) (y k j : ℕ) → n ≡ j + k → len p s ≡ ok y j → (t : Bool) → eqb y 0 ≡ t → pick t (pick b (give 0) (fail e)) (give y) (p + j) (drop j s) ≡ ok x k → (len p s ≡ ok x n) × (b ≡ false → eqb x 0 ≡ false)
+    go true y k j i f true d g = let z = of-eq y 0 d in let v : 0 ≡ k = cc in let o : j ≡ n = omega arith in (cc, λ u. absurd (true≢false u))
+    go false y k j i f true d g = not-ok g
+    go b y k j i f false d g = let w : y ≡ x = cc in let v : 0 ≡ k = cc in let o : j ≡ n = omega arith in (cc, λ u. rw w at d)
+
+pub checked-inv : (b : Bool) (e : ℕ) (len : Reader ℕ) (p : ℕ) (s : List ℕ) (x n : ℕ) → checked b e len p s ≡ ok x n → len p s ≡ ok x n
+checked-inv b e len p s x n h = checked-both b e len p s x n h .0
+
+pub checked-some : (e : ℕ) (len : Reader ℕ) (p : ℕ) (s : List ℕ) (x n : ℕ) → checked false e len p s ≡ ok x n → eqb x 0 ≡ false
+checked-some e len p s x n h = checked-both false e len p s x n h .1 refl

@@ -19,8 +19,8 @@ use Rattle.layout.specs.Read.{Codec, byBytes, read, readBasic, readBlob,
 use Rattle.layout.specs.Write.{each, write, writeBasic}
 use Rattle.layout.proofs.Cells.{extend, extend-bytes, powers}
 use Rattle.layout.proofs.Every.{All}
-use Rattle.layout.proofs.Local.{not-ok, passed}
-use Rattle.layout.proofs.Steps.{checked-inv, checked-some, int-inv, length-many, many-none, many-uncons, pair-inv, piece-inv, primitive-inv, split, then-ok}
+use Rattle.layout.proofs.Local.{not-ok}
+use Rattle.layout.proofs.Steps.{checked-inv, checked-some, int-inv, length-many, many-none, many-uncons, pair-inv, passed, piece-inv, primitive-inv, split, then-ok}
 use Rattle.layout.proofs.Kept.{Kept, kept-read}
 
 abbrev pub Bytes : List ℕ → Type 0

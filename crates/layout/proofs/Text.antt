@@ -57,14 +57,6 @@ begins-more (r ∷ rs) (b ∷ x) t e = let h = begins-cons r rs b x e in rw (h .
 
 -- ---- the first alternative that fits
 
-first-here : (c : List Range) (cs : List (List Range)) (s : List ℕ) → begins c s ≡ true → first (c ∷ cs) s ≡ length c
-unfolding first
-first-here c cs s e = rw e
-
-first-there : (c : List Range) (cs : List (List Range)) (s : List ℕ) → begins c s ≡ false → first (c ∷ cs) s ≡ first cs s
-unfolding first
-first-there c cs s e = rw e
-
 record Found (cs : List (List Range)) (s : List ℕ) (n : ℕ) : Type 0 where
   c : List Range
   listed : List·Memᴰ c cs
@@ -137,13 +129,10 @@ module _ (c : List Range) (P : ℕ → List (List Range) → Type 0)
       go h f (inl i) = here n r rs cs h i
       go h f (inr l) = past n r rs cs h l (f (h .rest) l)
 
-begins-as : (c d : List Range) (s : List ℕ) → c ≡ d → begins c s ≡ true → begins d s ≡ true
-begins-as c d s i e = subst (λ (x : List Range). begins x s ≡ true) i e
-
 begins-from : (c : List Range) (b : ℕ) (s : List ℕ) → begins c (b ∷ s) ≡ true → (n : ℕ) (cs : List (List Range)) → rising n cs ≡ true → List·Memᴰ c cs → n ≤ b
 begins-from c b s e =
     where-listed c (λ n cs. n ≤ b)
-    (λ n r rs cs h i. let w = within-low r b (begins-cons r rs b s (begins-as c (r ∷ rs) (b ∷ s) i e) .0) in omega arith)
+    (λ n r rs cs h i. let w = within-low r b (begins-cons r rs b s (rw i at e) .0) in omega arith)
     (λ n r rs cs h l g. omega arith)
 
 apart : (c : List Range) (s : List ℕ) → begins c s ≡ true → (r : Range) (rs : List Range) (cs : List (List Range)) → rising (suc (r .1)) cs ≡ true → List·Memᴰ c cs → begins (r ∷ rs) s ≡ false
@@ -177,10 +166,11 @@ unfolding first begins
 first-past r rs cs b s w = rw w
 
 first-is : (c : List Range) → Alternative c → (s : List ℕ) → begins c s ≡ true → first characters s ≡ length c
+unfolding first
 first-is c m s e =
     where-listed c (λ n cs. first cs s ≡ length c)
-    (λ n r rs cs h i. first-here (r ∷ rs) cs s (begins-as c (r ∷ rs) s i e) ∙ ap length (sym i))
-    (λ n r rs cs h l g. first-there (r ∷ rs) cs s (apart c s e r rs cs (h .rest) l) ∙ g)
+    (λ n r rs cs h i. rw (rw i at e) (ap length (sym i)))
+    (λ n r rs cs h l g. rw (apart c s e r rs cs (h .rest) l) g)
     0 characters characters-rise m
 
 -- ---- one character of a text
