@@ -12,7 +12,7 @@ use lib.Seq.{drop-append-seam, take-append-seam}
 use borrow.Author.Tests.{eq-eqb}
 use mathlib.Core.Logic.{_≢_}
 use lib.IntN.{negsuc, pos, ℤ}
-use Rattle.layout.specs.Reading.{Reader, give, here, many, ok, pair, pick, placed, primitive, raw, then}
+use Rattle.layout.specs.Reading.{Reader, fail, give, here, many, ok, pair, pick, placed, primitive, raw, then}
 use Rattle.layout.specs.Utf8.{utf8}
 use Rattle.layout.specs.Primitives.{Maybe, Null, Size, Width, be, bits, bytes, cell, checked, compact, fixed, flag, flagBytes, groups, holds, int, integer, integerBytes, keeps, lengthBytes, lengthOf, limit, nullBytes, plain, shortest, signed, size, sized, sizedBytes, unsigned, unsignedBytes, unzigzag, varint, varlong, w16, w32, w64, w8, zigzag, zigzagBytes}
 use Rattle.layout.specs.Rows.{Basic, BasicValue, Shape, Value, absent, array, blob, boolean, end, field, lacking, level, natural, number, optional, text}
@@ -22,7 +22,7 @@ use Rattle.layout.specs.Write.{basicFault, each, fault, firstOf, or, siz
 use Rattle.layout.proofs.Tests.{by-test, lt-false, lt-true, of-eq, of-le, of-lt, of-ne, one-more}
 use Rattle.layout.proofs.Cells.{extend, extend-bytes, pattern, powers}
 use Rattle.layout.proofs.Local.{Local, local-fail, local-give, local-pick, local-primitive, local-then, local-unsigned, raw-ok}
-use Rattle.layout.proofs.Parts.{Eating, Eats}
+use Rattle.layout.proofs.Parts.{Eating, Eats, size-some}
 
 -- r reads w as x, whatever follows
 pub record Back {A : Type 0} (r : Reader A) (w : List ℕ) (x : A) : Type 0 where
@@ -243,10 +243,7 @@ shortest-long (suc k) n =
     (λ e. rw e (omega (arith, length-append (bytes 1 (128 + n % 128)) (shortest k (n / 128)), length-bytes 1 (128 + n % 128))))
 
 width-long : (w : Width) (n : ℕ) → 1 ≤ length (bytes (size w) n)
-width-long w8 n = omega (arith, length-bytes 1 n)
-width-long w16 n = omega (arith, length-bytes 2 n)
-width-long w32 n = omega (arith, length-bytes 4 n)
-width-long w64 n = omega (arith, length-bytes 8 n)
+width-long w n = omega (arith, length-bytes (size w) n, size-some w)
 
 length-long : (z : Size) (n : ℕ) → 1 ≤ length (lengthBytes z n)
 unfolding lengthBytes unsignedBytes
@@ -292,23 +289,18 @@ each-long w h [] = omega arith
 each-long w h (x ∷ xs) = let a = h x in let b = each-long w h xs in omega (arith, length-append (w x) (each w xs))
 
 module _ (q : Bool) where
-  back-text : (b : List ℕ) → unless (utf8 b) 7 ≡ 0 → length b ≤ most → Back (readText (byBytes q) (length b)) b b
-  unfolding readText
-  back-text b h m = back-here _ _ _ (λ p. back-last _ _ b b b (back-raw b) (back-true _ _ _ _ _ (unless-none _ 6 h) (back-give b)))
-
-  back-blob : (b : List ℕ) → Back (readBlob (byBytes q) (length b)) b b
-  unfolding readBlob
-  back-blob b = back-here _ _ _ (λ p. back-map _ _ b b (back-raw b))
+  back-part : (t : List ℕ → Bool) (b : List ℕ) → unless (t b) 7 ≡ 0 → Back (here (λ p. then (raw (length b)) (λ b. pick (t b) (give b) (fail 7)))) b b
+  back-part t b h = back-here _ _ _ (λ p. back-last _ _ b b b (back-raw b) (back-true _ _ _ _ _ (unless-none _ 6 h) (back-give b)))
 
   back-basic : (k : Basic) (x : BasicValue (List ℕ) k) → basicFault k x ≡ 0 → length (writeBasic k x) ≤ most → Back (readBasic (byBytes q) k) (writeBasic k x) x
-  unfolding readBasic writeBasic basicFault flag flagBytes
+  unfolding readBasic readBlob readText writeBasic basicFault flag flagBytes pick
   back-basic (number w) x h m = back-cell w x (unless-none _ 10 h)
   back-basic boolean true h m = back-map (int 1) (λ n. ltb 0 n) (bytes 1 1) 1 (back-int 1 1 (lit< tt))
   back-basic boolean false h m = back-map (int 1) (λ n. ltb 0 n) (bytes 1 0) 0 (back-int 1 0 (lit< tt))
   back-basic level x h m = back-cell w8 x (back-level x (of-le x 1 (unless-none _ 10 h)))
   back-basic natural x h m = back-unsigned x (small-none _ _ 10 h)
-  back-basic (text z) x h m = back-primitive _ _ _ (back-sized (keeps z) _ _ z _ (λ y. y) _ refl (λ y. omega arith) back-text x h m)
-  back-basic (blob z) x h m = back-primitive _ _ _ (back-sized (keeps z) _ _ z _ (λ y. y) (λ y. 0) refl (λ y. omega arith) (λ y u v. back-blob y) x h m)
+  back-basic (text z) x h m = back-primitive _ _ _ (back-sized (keeps z) _ _ z _ (λ y. y) _ refl (λ y. omega arith) (λ y u v. back-part utf8 y u) x h m)
+  back-basic (blob z) x h m = back-primitive _ _ _ (back-sized (keeps z) _ _ z _ (λ y. y) (λ y. 0) refl (λ y. omega arith) (λ y u v. back-part (λ b. true) y (unfold unless in refl)) x h m)
   back-basic (optional d k) x h m = back-basic k x h m
 
   -- the theorem, for every shape: what is written without fault and within the limit reads back, in a whole read too

@@ -26,14 +26,8 @@ rows-many w cs = chunks-many (length cs / w) w cs
 chunk-at : (n w : ℕ) (cs : List ℕ) (i : ℕ) → i < n → getD (chunks n w cs) i [] ≡ take w (drop (i * w) cs)
 unfolding chunks
 chunk-at zero w cs i h = absurd (omega arith)
-chunk-at (suc n) w cs zero h = ap (λ (k : ℕ). take w (drop k cs)) none
-  where
-    none : 0 ≡ 0 * w
-    none = omega arith
-chunk-at (suc n) w cs (suc i) h = chunk-at n w (drop w cs) i (omega arith) ∙ ap (take w) (drop-drop (i * w) w cs ∙ ap (λ (k : ℕ). drop k cs) next)
-  where
-    next : w + i * w ≡ suc i * w
-    next = omega arith
+chunk-at (suc n) w cs zero h = let e : 0 ≡ 0 * w = omega arith in ap (λ (k : ℕ). take w (drop k cs)) e
+chunk-at (suc n) w cs (suc i) h = let e : w + i * w ≡ suc i * w = omega arith in chunk-at n w (drop w cs) i (omega arith) ∙ ap (take w) (drop-drop (i * w) w cs ∙ ap (λ (k : ℕ). drop k cs) e)
 
 -- row i of a table of n cells ends inside it
 pub row-inside : (w n i : ℕ) → i < n / w → i * w + w ≤ n
@@ -56,10 +50,7 @@ unfolding chunks
 chunks-part zero w cs = refl
 chunks-part (suc n) w cs =
     ap₂ (λ (r : List ℕ) (rs : List (List ℕ)). r ∷ rs) (take-take w (suc n * w) cs (omega arith))
-    (ap (chunks n w) (drop-take w (n * w) (suc n * w) more cs) ∙ chunks-part n w (drop w cs))
-  where
-    more : suc n * w ≡ w + n * w
-    more = omega arith
+    (ap (chunks n w) (drop-take w (n * w) (suc n * w) (omega arith) cs) ∙ chunks-part n w (drop w cs))
 
 pub rows-part : (n w : ℕ) (cs : List ℕ) → 0 < w → n * w ≤ length cs → rowsOf w (take (n * w) cs) ≡ chunks n w cs
 unfolding rowsOf

@@ -73,16 +73,6 @@ free-rows o (array z u i r) x h =
     λ j. flatten-none (λ y. cond (eqb o u) (rowCells i y ∷ []) (rowsIn o i y)) (λ y. ap (λ (b : Bool). cond b (rowCells i y ∷ []) (rowsIn o i y)) (h .0) ∙ free-rows o i y (h .1)) (listOf (keeps z) (x .0)) j ++ free-rows o r (x .1) (h .2) j
 free-rows o (lacking z u i r) x h = free-rows o r x h
 
--- ---- one push
-
-push-same : (t : ℕ) (cs : List ℕ) (st : Tables) → t < length st → getD (push t cs st) t [] ≡ cs ++ getD st t []
-unfolding push
-push-same t cs st h = getD-set-same st t (cs ++ getD st t []) [] h
-
-push-other : (t u : ℕ) (cs : List ℕ) (st : Tables) → eqb t u ≡ false → getD (push u cs st) t [] ≡ getD st t []
-unfolding push
-push-other t u cs st h = getD-set-other st u t (cs ++ getD st u []) [] (of-ne t u h)
-
 joined-append : (rs qs : List (List ℕ)) → joined (rs ++ qs) ≡ joined rs ++ joined qs
 joined-append [] qs = refl
 joined-append (r ∷ rs) qs = ap (λ (z : List ℕ). r ++ z) (joined-append rs qs) ∙ sym (append-assoc r (joined rs) (joined qs))
@@ -109,9 +99,10 @@ module _ (N : ℕ) where
 
   -- more cells of the row
   pushed : (o : ℕ) (st su : Tables) (cs own : List ℕ) (rows : ℕ → List (List ℕ)) → o < N → length su ≡ N → In o st su own rows → In o st (push o cs su) (cs ++ own) rows
+  unfolding push
   pushed o st su cs own rows h n c = record {
-    own-row = push-same o cs su (subst (λ (m : ℕ). o < m) (sym n) h) ∙ ap (λ (z : List ℕ). cs ++ z) (c .own-row) ∙ sym (append-assoc cs own (getD st o []));
-    others = λ t d. push-other t o cs su d ∙ c .others t d;
+    own-row = getD-set-same su o (cs ++ getD su o []) [] (subst (λ (m : ℕ). o < m) (sym n) h) ∙ ap (λ (z : List ℕ). cs ++ z) (c .own-row) ∙ sym (append-assoc cs own (getD st o []));
+    others = λ t d. getD-set-other su o t (cs ++ getD su o []) [] (of-ne t o d) ∙ c .others t d;
   }
 
   -- more rows of other tables

@@ -5,7 +5,7 @@ use mathlib.Core.Option.{none, some}
 use mathlib.Core.Path.{_∙_, _≡_, ap, refl}
 use Prim.Native.Nat.{_<_, suc, ℕ}
 use lib.Dec.{ltb}
-use lib.ListN.{drop, getD, length, length-replicate, set, take}
+use lib.ListN.{getD, length, length-replicate}
 use lib.Seq.{drop-at, getD-set-same, set-getD, set-set, take-at}
 use Rattle.layout.specs.Primitives.{Maybe, keeps, minus}
 use Rattle.layout.specs.Rows.{Basic, BasicValue, Shape, Value, absent, array, blob, boolean, end, field, lacking, level, natural, number, optional, text}
@@ -18,11 +18,8 @@ use Rattle.layout.proofs.Same.{lay, layAll, length-push, push}
 pub pop-push : (t w : ℕ) (cs : List ℕ) (st : Tables) → t < length st → length cs ≡ w → pop t w (push t cs st) ≡ (cs, st)
 unfolding pop push
 pop-push t w cs st h l =
-    let e : getD (set st t (cs ++ getD st t [])) t [] ≡ cs ++ getD st t [] = getD-set-same st t (cs ++ getD st t []) [] h in
-    let a : take w (getD (set st t (cs ++ getD st t [])) t []) ≡ cs = ap (take w) e ∙ take-at cs (getD st t []) w l in
-    let b : drop w (getD (set st t (cs ++ getD st t [])) t []) ≡ getD st t [] = ap (drop w) e ∙ drop-at cs (getD st t []) w l in
-    let d : set (set st t (cs ++ getD st t [])) t (getD st t []) ≡ st = set-set st t (cs ++ getD st t []) (getD st t []) ∙ set-getD st t [] in
-    λ i. (a i, (ap (λ (u : List ℕ). set (set st t (cs ++ getD st t [])) t u) b ∙ d) i)
+    let r = getD st t [] in
+    rw (getD-set-same st t (cs ++ r) [] h, take-at cs r w l, drop-at cs r w l, set-set st t (cs ++ r) r, set-getD st t [])
 
 -- ---- what `d` takes of what `g` laid is x
 

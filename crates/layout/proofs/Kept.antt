@@ -4,6 +4,7 @@ use mathlib.Core.List.{List}
 use Prim.Native.Nat.{_-_, _≤_, suc, zero, ℕ}
 use native.Mathlib.Omega.{arith}
 use Rattle.layout.specs.Reading.{Reader, fail, give, here, many, pair, pick, primitive, raw, then}
+use Rattle.layout.specs.Utf8.{utf8}
 use Rattle.layout.specs.Primitives.{Size, Width, cell, checked, compact, empty, fixed, flag, groups, int, keeps, kept, lengthOf, never, plain, refusal, sized, unsigned, w8}
 use Rattle.layout.specs.Rows.{Basic, Shape, absent, array, blob, boolean, end, field, lacking, level, natural, number, optional, text}
 use Rattle.layout.specs.Read.{Codec, read, readBasic, readBlob, readText}
@@ -82,22 +83,17 @@ module _ {P : (A : Type 0) → Reader A → Reader A → Type 0} (k : Kept P) wh
     abbrev other : Codec
     other = record { Text = X; make = make; varint = v′; flag = fl′; whole = w }
 
-    kept-blob : (n : ℕ) → P _ (readBlob one n) (readBlob other n)
-    unfolding readBlob
-    kept-blob n = k .on-here _ _ (λ p. k .on-then _ _ _ _ (k .on-raw n) (λ b. k .on-give _))
-
-    kept-text : (n : ℕ) → P _ (readText one n) (readText other n)
-    unfolding readText
-    kept-text n = k .on-here _ _ (λ p. k .on-then _ _ _ _ (k .on-raw n) (λ b. k .on-pick _ _ _ _ _ (k .on-give _) (k .on-fail 7 (omega arith) (omega arith))))
+    kept-part : (t : List ℕ → Bool) (n : ℕ) → P _ (here (λ p. then (raw n) (λ b. pick (t b) (give (make p b)) (fail 7)))) (here (λ p. then (raw n) (λ b. pick (t b) (give (make p b)) (fail 7))))
+    kept-part t n = k .on-here _ _ (λ p. k .on-then _ _ _ _ (k .on-raw n) (λ b. k .on-pick _ _ _ _ _ (k .on-give _) (k .on-fail 7 (omega arith) (omega arith))))
 
     pub kept-basic : (b : Basic) → P _ (readBasic one b) (readBasic other b)
-    unfolding readBasic
+    unfolding readBasic readBlob readText pick
     kept-basic (number b) = kept-cell b
     kept-basic boolean = hf
     kept-basic level = kept-cell w8
     kept-basic natural = hv
-    kept-basic (text z) = k .on-primitive _ _ (kept-sized (keeps z) _ z _ _ _ _ (kept-length v v′ hv z) kept-text)
-    kept-basic (blob z) = k .on-primitive _ _ (kept-sized (keeps z) _ z _ _ _ _ (kept-length v v′ hv z) kept-blob)
+    kept-basic (text z) = k .on-primitive _ _ (kept-sized (keeps z) _ z _ _ _ _ (kept-length v v′ hv z) (kept-part utf8))
+    kept-basic (blob z) = k .on-primitive _ _ (kept-sized (keeps z) _ z _ _ _ _ (kept-length v v′ hv z) (kept-part (λ b. true)))
     kept-basic (optional d b) = kept-basic b
 
     pub kept-read : (l : Shape) → P _ (read one l) (read other l)

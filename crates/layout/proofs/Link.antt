@@ -10,7 +10,8 @@ use lib.Seq.{drop-drop}
 use mathlib.Core.Option.{Option, none, some}
 use native.Mathlib.Omega.{arith}
 use lib.Dec.{eqb}
-use Rattle.layout.specs.Reading.{Reader, Res, bad, fail, give, here, loop, many, more, next, ok, pair, pick, placed, primitive, then}
+use Rattle.layout.specs.Reading.{Reader, Res, bad, fail, give, here, loop, many, more, next, ok, pair, pick, placed, primitive, raw, then}
+use Rattle.layout.specs.Utf8.{utf8}
 use Rattle.layout.specs.Primitives.{Maybe, Null, Size, admits, admitsNull, checked, compact, empty, fixed, flag, isKept, keeps, kept, minus, never, plain, sized, unsigned, varint}
 use Rattle.layout.specs.Rows.{Basic, BasicValue, Shape, Value, absent, array, blob, boolean, end, field, lacking, level, natural, number, optional, text}
 use Rattle.layout.specs.Read.{Codec, byBytes, byPlace, read, readBasic, readBlob, readText}
@@ -59,19 +60,13 @@ maps-then {A} {B} {S} {U} rs r h fs f g Q a q b = record { law = λ p s. rw (a .
     go p s (bad e) d = refl
 
 pub maps-same : {A : Type 0} (r : Reader A) → Maps r r (λ x. x)
-maps-same {A} r = record { law = λ p s. go (r p s) }
-  where
-    go : (o : Res A) → o ≡ over (λ x. x) o
-    go (ok x n) = refl
-    go (bad e) = refl
+maps-same r = record { law = λ p s. elim (r p s) as (λ o. o ≡ over (λ x. x) o) [ ok x n ↦ refl | bad e ↦ refl ] }
 
 pub maps-last : {A B S : Type 0} (rs : Reader S) (r : Reader A) (h : A → B) (g : B → S) → Maps rs r (λ x. g (h x)) → Maps rs (then r (λ x. give (h x))) g
 unfolding then give
-maps-last {A} {B} {S} rs r h g a = record { law = λ p s. a .law p s ∙ go p s (r p s) }
-  where
-    go : (p : ℕ) (s : List ℕ) (o : Res A) → over (λ x. g (h x)) o ≡ over g (next o (λ x. give (h x)) p s)
-    go p s (ok x n) = ap (λ (k : ℕ). ok (g (h x)) k) (sym (add-zero n))
-    go p s (bad e) = refl
+maps-last rs r h g a = record {
+  law = λ p s. a .law p s ∙ elim (r p s) as (λ o. over (λ x. g (h x)) o ≡ over g (next o (λ x. give (h x)) p s)) [ ok x n ↦ ap (λ (k : ℕ). ok (g (h x)) k) (sym (add-zero n)) | bad e ↦ refl ];
+}
 
 pub more-more : {A : Type 0} (a b : ℕ) (o : Res A) → more a (more b o) ≡ more (a + b) o
 more-more a b (ok x n) = ap (λ (k : ℕ). ok x k) (sym (add-assoc a b n))
@@ -106,11 +101,7 @@ maps-pick false r q r′ q′ g h k = k
 
 pub maps-primitive : {A S : Type 0} (r : Reader S) (r′ : Reader A) (g : A → S) → Maps r r′ g → Maps (primitive r) (primitive r′) g
 unfolding primitive
-maps-primitive {A} {S} r r′ g h = record { law = λ p s. ap (placed p) (h .law p s) ∙ go p (r′ p s) }
-  where
-    go : (p : ℕ) (o : Res A) → placed p (over g o) ≡ over g (placed p o)
-    go p (ok x n) = refl
-    go p (bad e) = refl
+maps-primitive r r′ g h = record { law = λ p s. ap (placed p) (h .law p s) ∙ elim (r′ p s) as (λ o. placed p (over g o) ≡ over g (placed p o)) [ ok x n ↦ refl | bad e ↦ refl ] }
 
 pub maps-here : {A S : Type 0} (r : ℕ → Reader S) (r′ : ℕ → Reader A) (g : A → S) → ((p : ℕ) → Maps (r p) (r′ p) g) → Maps (here r) (here r′) g
 unfolding here
@@ -173,22 +164,17 @@ module _ {X Y : Type 0} (g : X → Y) (mk : ℕ → List ℕ → X) (v : Reader 
   abbrev pub coarse : Codec
   coarse = record { Text = Y; make = λ p b. g (mk p b); varint = v; flag = fl; whole = q }
 
-  maps-blob : (n : ℕ) → Maps (readBlob coarse n) (readBlob fine n) g
-  unfolding readBlob
-  maps-blob n = maps-here _ _ _ (λ p. maps-next _ _ (λ b. b) _ _ _ (maps-same _) (λ b. maps-give g (mk p b)))
-
-  maps-text : (n : ℕ) → Maps (readText coarse n) (readText fine n) g
-  unfolding readText
-  maps-text n = maps-here _ _ _ (λ p. maps-next _ _ (λ b. b) _ _ _ (maps-same _) (λ b. maps-pick _ _ _ _ _ _ (maps-give g (mk p b)) (maps-fail _ g)))
+  maps-part : (t : List ℕ → Bool) (n : ℕ) → Maps (here (λ p. then (raw n) (λ b. pick (t b) (give (g (mk p b))) (fail 7)))) (here (λ p. then (raw n) (λ b. pick (t b) (give (mk p b)) (fail 7)))) g
+  maps-part t n = maps-here _ _ _ (λ p. maps-next _ _ (λ b. b) _ _ _ (maps-same _) (λ b. maps-pick _ _ _ _ _ _ (maps-give g (mk p b)) (maps-fail _ g)))
 
   maps-basic : (k : Basic) → Maps (readBasic coarse k) (readBasic fine k) (mapBasic g k)
-  unfolding readBasic
+  unfolding readBasic readBlob readText pick
   maps-basic (number w) = maps-same _
   maps-basic boolean = maps-same _
   maps-basic level = maps-same _
   maps-basic natural = maps-same _
-  maps-basic (text z) = maps-primitive _ _ _ (maps-sized (keeps z) _ _ _ _ _ g maps-text)
-  maps-basic (blob z) = maps-primitive _ _ _ (maps-sized (keeps z) _ _ _ _ _ g maps-blob)
+  maps-basic (text z) = maps-primitive _ _ _ (maps-sized (keeps z) _ _ _ _ _ g (maps-part utf8))
+  maps-basic (blob z) = maps-primitive _ _ _ (maps-sized (keeps z) _ _ _ _ _ g (maps-part (λ b. true)))
   maps-basic (optional d k) = maps-basic k
 
   pub codecs : (l : Shape) → Maps (read coarse l) (read fine l) (mapValue g l)

@@ -85,26 +85,26 @@ hungry-int k h = record { law = λ p s x n e. let u = int-inv k p s x n e .used 
 hungry-unsigned : Hungry unsigned
 hungry-unsigned = record { law = λ p s x n e. unsigned-small p s x n e .1 }
 
-hungry-size : (w : Width) → 1 ≤ size w
-hungry-size w8 = omega arith
-hungry-size w16 = omega arith
-hungry-size w32 = omega arith
-hungry-size w64 = omega arith
+pub size-some : (w : Width) → 1 ≤ size w
+size-some w8 = omega arith
+size-some w16 = omega arith
+size-some w32 = omega arith
+size-some w64 = omega arith
 
 hungry-length : (z : Size) → Hungry (lengthOf unsigned z)
 unfolding lengthOf
-hungry-length (fixed w m) = hungry-then _ _ (hungry-int (size w) (hungry-size w))
+hungry-length (fixed w m) = hungry-then _ _ (hungry-int (size w) (size-some w))
 hungry-length (compact m) = hungry-unsigned
 hungry-length plain = hungry-then _ _ hungry-unsigned
 
-hungry-sized : {A : Type 0} (b a : Bool) (e : ℕ) (z : Size) (r : ℕ → Reader A) → Hungry (sized b a e (lengthOf unsigned z) r)
+size-somed : {A : Type 0} (b a : Bool) (e : ℕ) (z : Size) (r : ℕ → Reader A) → Hungry (sized b a e (lengthOf unsigned z) r)
 unfolding sized checked
-hungry-sized true a e z r = hungry-then _ _ (hungry-primitive _ (hungry-then _ _ (hungry-length z)))
-hungry-sized false a e z r = hungry-then _ _ (hungry-primitive _ (hungry-then _ _ (hungry-length z)))
+size-somed true a e z r = hungry-then _ _ (hungry-primitive _ (hungry-then _ _ (hungry-length z)))
+size-somed false a e z r = hungry-then _ _ (hungry-primitive _ (hungry-then _ _ (hungry-length z)))
 
 hungry-cell : (w : Width) → Hungry (cell w)
 unfolding cell
-hungry-cell w = hungry-then _ _ (hungry-int (size w) (hungry-size w))
+hungry-cell w = hungry-then _ _ (hungry-int (size w) (size-some w))
 
 -- a field or an array stands in l
 abbrev pub Eats : Shape → Type 0
@@ -121,8 +121,8 @@ module _ (q : Bool) where
   hungry-basic boolean = hungry-then _ _ (hungry-int 1 (omega arith))
   hungry-basic level = hungry-cell w8
   hungry-basic natural = hungry-unsigned
-  hungry-basic (text z) = hungry-primitive _ (hungry-sized (keeps z) _ _ z _)
-  hungry-basic (blob z) = hungry-primitive _ (hungry-sized (keeps z) _ _ z _)
+  hungry-basic (text z) = hungry-primitive _ (size-somed (keeps z) _ _ z _)
+  hungry-basic (blob z) = hungry-primitive _ (size-somed (keeps z) _ _ z _)
   hungry-basic (optional d k) = hungry-basic k
 
   hungry-read : (l : Shape) → Eats l → Hungry (read (byBoth q) l)
@@ -130,7 +130,7 @@ module _ (q : Bool) where
   hungry-read end h = absurd h
   hungry-read (field k r) h = hungry-then _ _ (hungry-basic k)
   hungry-read (absent k r) h = hungry-read r h
-  hungry-read (array z t i r) h = hungry-then _ _ (hungry-sized (keeps z) _ _ z _)
+  hungry-read (array z t i r) h = hungry-then _ _ (size-somed (keeps z) _ _ z _)
   hungry-read (lacking z t i r) h = hungry-read r h
 
 hungry-many : {A : Type 0} (r : Reader A) → Hungry r → (n p : ℕ) (s : List ℕ) (xs : List A) (m : ℕ) → many n r p s ≡ ok xs m → n ≤ m

@@ -40,10 +40,6 @@ pop-other : (t o w : ℕ) (st : Tables) → eqb t o ≡ false → getD (pop o w 
 unfolding pop
 pop-other t o w st h = getD-set-other st o t _ [] (of-ne t o h)
 
-pop-row : (o w : ℕ) (st : Tables) → pop o w st .0 ≡ take w (getD st o [])
-unfolding pop
-pop-row o w st = refl
-
 drop-one : (n : ℕ) (cs : List ℕ) → drop n (drop 1 cs) ≡ drop (suc n) cs
 drop-one n cs = let e : 1 + n ≡ suc n = omega arith in drop-drop n 1 cs ∙ ap (λ (k : ℕ). drop k cs) e
 
@@ -135,21 +131,21 @@ module _ (h : Telling) where
 
   -- the own row is told from the front of its table, and is taken from there
   pub own-row : (l : Shape) (o : ℕ) (st : Tables) → o < length st → Free o l → own l (told h l o st .0) ≡ row h l (getD st o [])
-  unfolding told row
+  unfolding told row pop
   own-row end o st a f = refl
   own-row (field k r) o st a f =
-      (λ i. h .cellsOf k (pop-row o (width k) st i) ++ (own-row r o (pop o (width k) st .1) (subst (λ (n : ℕ). o < n) (sym (length-pop o (width k) st)) a) f ∙ ap (row h r) (pop-same o (width k) st a)) i)
+      (λ i. h .cellsOf k (take (width k) (getD st o [])) ++ (own-row r o (pop o (width k) st .1) (subst (λ (n : ℕ). o < n) (sym (length-pop o (width k) st)) a) f ∙ ap (row h r) (pop-same o (width k) st a)) i)
   own-row (absent k r) o st a f =
-      (λ i. h .absentOf k (pop-row o (width k) st i) ++ (own-row r o (pop o (width k) st .1) (subst (λ (n : ℕ). o < n) (sym (length-pop o (width k) st)) a) f ∙ ap (row h r) (pop-same o (width k) st a)) i)
+      (λ i. h .absentOf k (take (width k) (getD st o [])) ++ (own-row r o (pop o (width k) st .1) (subst (λ (n : ℕ). o < n) (sym (length-pop o (width k) st)) a) f ∙ ap (row h r) (pop-same o (width k) st a)) i)
   own-row (array z t i r) o st a f =
       let S = pop o 1 st .1 in
       let n = count (getD (pop o 1 st .0) 0 0) in
-      let c : getD (pop o 1 st .0) 0 0 ≡ getD (getD st o []) 0 0 = ap (λ (cs : List ℕ). getD cs 0 0) (pop-row o 1 st) ∙ getD-take 1 (getD st o []) 0 0 (omega arith) in
+      let c = getD-take 1 (getD st o []) 0 0 (omega arith) in
       let e : getD (times n (told h i t) S .1) o [] ≡ drop 1 (getD st o []) = times-leave o (told h i t) (λ su. leaves o i t su (f .0) (f .1)) n S ∙ pop-same o 1 st a in
       let b : o < length (times n (told h i t) S .1) = subst (λ (m : ℕ). o < m) (sym (length-times (told h i t) (length-told i t) n S ∙ length-pop o 1 st)) a in
       λ j. num (h .countOf z (c j)) ∷ (own-row r o (times n (told h i t) S .1) b (f .2) ∙ ap (row h r) e) j
   own-row (lacking z t i r) o st a f =
-      let c : getD (pop o 1 st .0) 0 0 ≡ getD (getD st o []) 0 0 = ap (λ (cs : List ℕ). getD cs 0 0) (pop-row o 1 st) ∙ getD-take 1 (getD st o []) 0 0 (omega arith) in
+      let c = getD-take 1 (getD st o []) 0 0 (omega arith) in
       λ j. num (h .lackedOf z (c j)) ∷ (own-row r o (pop o 1 st .1) (subst (λ (n : ℕ). o < n) (sym (length-pop o 1 st)) a) f ∙ ap (row h r) (pop-same o 1 st a)) j
 
   own-left : (l : Shape) (o : ℕ) (st : Tables) → o < length st → Free o l → getD (told h l o st .1) o [] ≡ drop (rowWidth l) (getD st o [])
