@@ -1,6 +1,6 @@
 -- The laws at the level of calls, for every message: what is refused before the bytes are looked at, that nothing behind the used bytes has a part,
 -- what tables and output hold after a refusal, and that what a write accepts a whole read accepts, with tables that mean the same.
-use mathlib.Core.Bool.{Bool, cond, false, true, true≢false}
+use mathlib.Core.Bool.{Bool, false, true, true≢false}
 use mathlib.Core.List.{List, [], _++_, _∷_}
 use mathlib.Core.Option.{Option, none, some}
 use mathlib.Core.Path.{_∙_, _≡_, ap, refl, subst, sym}
@@ -16,12 +16,12 @@ use Rattle.layout.specs.Primitives.{minus}
 use Rattle.layout.specs.Rows.{Shape}
 use Rattle.layout.specs.Write.{fault}
 use Rattle.layout.specs.Tables.{Tables, append, good, goodCount, readRows}
-use Rattle.layout.specs.Answers.{Answer, Message, accepted, body, ended, judged, laid, made, meant, most, needed, offered, prefixRead, readAnswer, refused, roomy, seen, shape, stored, widths, writeAnswer}
+use Rattle.layout.specs.Answers.{Answer, Message, accepted, body, ended, laid, made, meant, most, needed, offered, prefixRead, readAnswer, refused, roomy, seen, shape, widths, writeAnswer}
 use Rattle.layout.proofs.Contents.{Holds, rows-needed, rows-wide, rowsIn, tables-hold}
 use Rattle.layout.proofs.Every.{Every}
 use Rattle.layout.proofs.Link.{keep, link, over, under}
 use Rattle.layout.proofs.Local.{Local, local-flag, local-read, local-unsigned, not-ok}
-use Rattle.layout.proofs.Steps.{passed}
+use Rattle.layout.proofs.Steps.{by-result, passed}
 use Rattle.layout.proofs.Parts.{shown}
 use Rattle.layout.proofs.Proper.{owed, proper, width-same, widthAt}
 use Rattle.layout.proofs.Tests.{by-test, le-false, le-true, lt-false, of-ge, of-le}
@@ -111,7 +111,7 @@ module _ (m : Message) (v : ℤ) (s : List ℕ) where
 
     pub read-inv : (w : Bool) (r : List ℕ) (n : ℕ) (after : Tables) → readAnswer w m v room s ≡ (accepted r n, after) → Read w r n after
     unfolding readAnswer
-    read-inv w r n after e = go (seen w m v s) refl e
+    read-inv w r n after e = by-result (seen w m v s) (λ st k d. fits st k d (needed (widths m) (drop 1 st) room) refl (rw d at e)) (λ c d. not-accepted (rw d at e))
       where
         fits : (st : Tables) (k : ℕ) → seen w m v s ≡ ok st k → (o : Option ℕ) → needed (widths m) (drop 1 st) room ≡ o → roomy st room k o ≡ (accepted r n, after) → Read w r n after
         fits st k d none h e =
@@ -119,10 +119,6 @@ module _ (m : Message) (v : ℤ) (s : List ℕ) where
             let y : k ≡ n = cc in
             record { st = st; is-seen = d ∙ ap (λ (j : ℕ). ok st j) y; has-room = h; row-is = cc; after-is = ap (λ (z : Answer × Tables). z .1) e }
         fits st k d (some j) h e = not-accepted e
-
-        go : (o : Res Tables) → seen w m v s ≡ o → judged m room o ≡ (accepted r n, after) → Read w r n after
-        go (ok st k) d e = fits st k d (needed (widths m) (drop 1 st) room) refl e
-        go (bad c) d e = not-accepted e
 
     pub read-answer : (w : Bool) (st : Tables) (n : ℕ) → seen w m v s ≡ ok st n → needed (widths m) (drop 1 st) room ≡ none → readAnswer w m v room s ≡ (accepted (getD st 0 []) n, laid (drop 1 st) room)
     unfolding readAnswer
@@ -136,15 +132,12 @@ module _ (m : Message) (v : ℤ) (s : List ℕ) where
     -- after any refusal, of room too, the tables are as they were
     pub refusal-keeps : (w : Bool) (e : Refusal) (after : Tables) → readAnswer w m v room s ≡ (refused e, after) → after ≡ room
     unfolding readAnswer
-    refusal-keeps w e after d = go (seen w m v s) d
+    refusal-keeps w e after d =
+        by-result (seen w m v s) (λ st k i. fits st k (needed (widths m) (drop 1 st) room) (rw i at d)) (λ c i. sym (ap (λ (z : Answer × Tables). z .1) (rw i at d)))
       where
         fits : (st : Tables) (k : ℕ) (o : Option ℕ) → roomy st room k o ≡ (refused e, after) → after ≡ room
         fits st k none d = not-accepted (sym d)
         fits st k (some j) d = sym (ap (λ (z : Answer × Tables). z .1) d)
-
-        go : (o : Res Tables) → judged m room o ≡ (refused e, after) → after ≡ room
-        go (ok st k) d = fits st k (needed (widths m) (drop 1 st) room) d
-        go (bad c) d = sym (ap (λ (z : Answer × Tables). z .1) d)
 
 -- the law of the prefix read: nothing behind the used bytes has a part in its answer
 pub prefix-local : (m : Message) (v : ℤ) (room : Tables) (s t r : List ℕ) (n : ℕ) (after : Tables) →
@@ -226,19 +219,16 @@ pub record Wrote (m : Message) (v : ℤ) (lent : List ℕ) (st : Tables) (out : 
 
 pub write-inv : (m : Message) (v : ℤ) (lent : List ℕ) (st : Tables) (out r : List ℕ) (n : ℕ) (after : List ℕ) → writeAnswer m v lent st out ≡ (accepted r n, after) → Wrote m v lent st out n after
 unfolding writeAnswer
-write-inv m v lent st out r n after e = go (made m v lent st) refl e
-  where
-    fits : (bs : List ℕ) (k : ℕ) (c : Refusal) → made m v lent st ≡ ok bs k → (b : Bool) → leb k (length out) ≡ b →
-        _≡_ {A = Answer × List ℕ} (cond b (accepted [] k, bs ++ drop k out) (refused c, out)) (accepted r n, after) → Wrote m v lent st out n after
-    fits bs k c d true h e =
-        let x : accepted [] k ≡ accepted r n = ap (λ (z : Answer × List ℕ). z .0) e in
-        let y : k ≡ n = cc in
-        record { bs = bs; is-made = d ∙ ap (λ (j : ℕ). ok bs j) y; after-is = sym (ap (λ (z : Answer × List ℕ). z .1) e) ∙ ap (λ (j : ℕ). bs ++ drop j out) y; fits = subst (λ (j : ℕ). j ≤ length out) y (of-le _ _ h) }
-    fits bs k c d false h e = not-accepted e
-
-    go : (o : Res (List ℕ)) → made m v lent st ≡ o → stored out o ≡ (accepted r n, after) → Wrote m v lent st out n after
-    go (ok bs k) d e = fits bs k _ d (leb k (length out)) refl e
-    go (bad c) d e = not-accepted e
+write-inv m v lent st out r n after e =
+    by-result (made m v lent st)
+    (λ bs k d. by-test (leb k (length out))
+    (λ h.
+    let f : _≡_ {A = Answer × List ℕ} (accepted [] k, bs ++ drop k out) (accepted r n, after) = rw (d, h) at e in
+    let x : accepted [] k ≡ accepted r n = ap (λ (z : Answer × List ℕ). z .0) f in
+    let y : k ≡ n = cc in
+    record { bs = bs; is-made = d ∙ ap (λ (j : ℕ). ok bs j) y; after-is = sym (ap (λ (z : Answer × List ℕ). z .1) f) ∙ ap (λ (j : ℕ). bs ++ drop j out) y; fits = rw y at (of-le k (length out) h) })
+    (λ h. not-accepted (rw (d, h) at e)))
+    (λ c d. not-accepted (rw d at e))
 
 -- the law of writing: the whole read of what was written accepts it, at that version, and its tables mean what the written tables meant
 pub written-reads : (m : Message) → proper m ≡ true → (v : ℤ) (lent : List ℕ) (st : Tables) (bs : List ℕ) (n : ℕ) → (d : Made m v lent st bs n) → (w : Bool) → Laid w (shape m (d .version)) (suc (m .tables)) bs (meant lent st (shape m (d .version))) (length bs)
@@ -263,7 +253,11 @@ pub record ComesBack (m : Message) (v : ℤ) (lent : List ℕ) (st : Tables) (bs
 
 pub comes-back : (m : Message) → proper m ≡ true → (v : ℤ) (lent : List ℕ) (st : Tables) (out r : List ℕ) (n : ℕ) (after : List ℕ) →
     writeAnswer m v lent st out ≡ (accepted r n, after) → (length (take n after) ≡ n) × ComesBack m v lent st (take n after)
-comes-back m h v lent st out r n after e = from-made (write-inv m v lent st out r n after e)
+comes-back m h v lent st out r n after e =
+    let w = write-inv m v lent st out r n after e in
+    let d = made-inv m v lent st (w .bs) n (w .is-made) in
+    let t : take n after ≡ w .bs = ap (take n) (w .after-is) ∙ take-at (w .bs) (drop n out) n (sym (d .size-is)) in
+    (ap length t ∙ sym (d .size-is), subst (ComesBack m v lent st) (sym t) (read-it (w .bs) d))
   where
     read-it : (bs : List ℕ) → (d : Made m v lent st bs n) → ComesBack m v lent st bs
     read-it bs d = record {
@@ -278,12 +272,6 @@ comes-back m h v lent st out r n after e = from-made (write-inv m v lent st out 
         both-ways : (w : Bool) → seen w m (pos (d .version)) bs ≡ ok (laid-of w .st) (length bs)
         both-ways true = seen-whole m (d .version) bs (laid-of true .st) (d .known) (d .short) (laid-of true .reads)
         both-ways false = seen-prefix m (d .version) bs (laid-of false .st) (length bs) (d .known) (d .short) (laid-of false .reads)
-
-    from-made : Wrote m v lent st out n after → (length (take n after) ≡ n) × ComesBack m v lent st (take n after)
-    from-made w =
-        let d = made-inv m v lent st (w .bs) n (w .is-made) in
-        let t : take n after ≡ w .bs = ap (take n) (w .after-is) ∙ take-at (w .bs) (drop n out) n (sym (d .size-is)) in
-        (ap length t ∙ sym (d .size-is), subst (ComesBack m v lent st) (sym t) (read-it (w .bs) d))
 
 -- ---- room: a table with just the rows needed is large enough, cells behind those filled stay, and a write that does not fit says all its bytes
 

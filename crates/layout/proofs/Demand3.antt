@@ -10,7 +10,7 @@ use native.Mathlib.Omega.{arith}
 use lib.IntN.{negsuc, pos, ℤ}
 use lib.ListN.{length, replicate, take}
 use lib.Seq.{take-length}
-use Rattle.layout.specs.Reading.{Refusal, Res, bad, ok}
+use Rattle.layout.specs.Reading.{Refusal, ok}
 use Rattle.layout.specs.Rows.{Shape, Value}
 use Rattle.layout.specs.Read.{byBytes, read}
 use Rattle.layout.specs.Write.{fault, write}
@@ -26,6 +26,7 @@ use Rattle.layout.proofs.Proper.{api-response, owed}
 use Rattle.layout.proofs.Returned.{api-response-follows, responseTables}
 use Rattle.layout.proofs.Tests.{le-true}
 use Rattle.layout.proofs.Trip.{tables-mean}
+use Rattle.layout.proofs.Steps.{by-result}
 
 -- ---- what is read can be written again
 
@@ -86,11 +87,10 @@ at-most-one v w s room room′ r r′ n n′ after after′ a b =
 -- a body accepted whole at one layout is refused at every version of another, whatever tables are lent, and they are as they were
 pub other-refuses : (v w : ℤ) (s : List ℕ) (st : Tables) (n : ℕ) → seen true Api.response v s ≡ ok st n → era v ≢ era w → (e : Refusal) × ((room : Tables) → wholeRead Api.response w room s ≡ (refused e, room))
 unfolding wholeRead
-other-refuses v w s st n a apart = go (seen true Api.response w s) refl
-  where
-    go : (o : Res Tables) → seen true Api.response w s ≡ o → (e : Refusal) × ((room : Tables) → wholeRead Api.response w room s ≡ (refused e, room))
-    go (bad e) d = (e, λ room. read-refused Api.response w s room true e d)
-    go (ok su k) d = absurd (apart (exclusive s (seen-inv true Api.response v s st n a .short) (era v) (era w) (at-its-layout v s st n a) (at-its-layout w s su k d)))
+other-refuses v w s st n a apart =
+    by-result (seen true Api.response w s)
+    (λ su k d. absurd (apart (exclusive s (seen-inv true Api.response v s st n a .short) (era v) (era w) (at-its-layout v s st n a) (at-its-layout w s su k d))))
+    (λ e d. (e, λ room. read-refused Api.response w s room true e d))
 
 -- what the writer accepted at version v is accepted whole at v and means the same; at a version of another layout it is refused
 pub written-once : (v : ℤ) (lent : List ℕ) (st : Tables) (out r : List ℕ) (n : ℕ) (after : List ℕ) → writeAnswer Api.response v lent st out ≡ (accepted r n, after) →

@@ -19,7 +19,7 @@ use Rattle.layout.specs.Tables.{Span, absentCells, absentCount, cells, c
 use Rattle.layout.proofs.Every.{listOf}
 use Rattle.layout.proofs.Tests.{of-eq}
 use Rattle.layout.proofs.Local.{not-ok}
-use Rattle.layout.proofs.Steps.{length-many, split}
+use Rattle.layout.proofs.Steps.{by-result, length-many, split}
 
 abbrev pub over : {A B : Type 0} → (A → B) → Res A → Res B
 over g (ok x n) = ok (g x) n
@@ -35,11 +35,9 @@ pub record Under {A S : Type 0} (r : Reader A) (g : A → S) (p : ℕ) (s : List
   pub is : g x ≡ y
 
 pub under : {A S : Type 0} (rs : Reader S) (r : Reader A) (g : A → S) → Maps rs r g → (p : ℕ) (s : List ℕ) (y : S) (n : ℕ) → rs p s ≡ ok y n → Under r g p s y n
-under {A} rs r g m p s y n e = go (r p s) refl (sym (m .law p s) ∙ e)
-  where
-    go : (o : Res A) → r p s ≡ o → over g o ≡ ok y n → Under r g p s y n
-    go (ok x k) d e = record { x = x; reads = d ∙ ap (ok x) (cc); is = cc }
-    go (bad c) d e = not-ok e
+under rs r g m p s y n e =
+    let d = sym (m .law p s) ∙ e in
+    by-result (r p s) (λ x k i. let f : ok (g x) k ≡ ok y n = rw i at d in record { x = x; reads = i ∙ ap (ok x) (cc); is = cc }) (λ c i. not-ok (rw i at d))
 
 pub maps-give : {A S : Type 0} (g : A → S) (x : A) → Maps (give (g x)) (give x) g
 unfolding give

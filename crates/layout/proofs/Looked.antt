@@ -3,12 +3,12 @@ use mathlib.Core.Bool.{false}
 use mathlib.Core.List.{List, []}
 use mathlib.Core.Logic.{_↔_}
 use mathlib.Core.Option.{Option, none, some}
-use mathlib.Core.Path.{_≡_, ap}
+use mathlib.Core.Path.{_∙_, _≡_, ap}
 use Prim.Native.Nat.{ℕ}
 use native.Mathlib.Omega.{arith}
 use lib.IntN.{ℤ}
 use lib.ListN.{getD}
-use Rattle.layout.specs.Reading.{Refusal, Res, bad, ok}
+use Rattle.layout.specs.Reading.{Refusal, bad, ok}
 use Rattle.layout.specs.Tables.{Tables, firstRow, rowsOf}
 use Rattle.layout.specs.Answers as Answers
 use Rattle.layout.specs.Answers.{prefixRead, seen}
@@ -16,6 +16,7 @@ use Rattle.layout.specs.Lookup.{hostIn, hostOf, lookup, refused}
 use Rattle.layout.specs.Messages.Metadata.{response}
 use Rattle.layout.proofs.Calls.{read-refused}
 use Rattle.layout.proofs.Refusals.{Refuses, seen-refuses}
+use Rattle.layout.proofs.Steps.{by-result}
 
 not-refused : {X : Type 0} (o : Option (List ℕ)) (e : Refusal) → hostOf o ≡ refused e → X
 not-refused none e h = let z : _≡_ {A = ℕ} 0 1 = cc in absurd (omega arith)
@@ -24,11 +25,10 @@ not-refused (some r) e h = let z : _≡_ {A = ℕ} 0 1 = cc in absurd (omega ari
 module _ (node : ℕ) (v : ℤ) (s : List ℕ) where
   pub lookup-refuses : (e : Refusal) → (lookup node v s ≡ refused e) ↔ (seen false response v s ≡ bad e)
   unfolding lookup
-  lookup-refuses e = (λ h. go (seen false response v s) h, λ d. ap (hostIn node) d)
-    where
-      go : (o : Res Tables) → hostIn node o ≡ refused e → o ≡ bad e
-      go (ok st n) h = not-refused (firstRow node (rowsOf 7 (getD st 1 []))) e h
-      go (bad c) h = let x : c ≡ e = cc in ap bad x
+  lookup-refuses e = (
+    λ h. by-result (seen false response v s) (λ st n d. not-refused (firstRow node (rowsOf 7 (getD st 1 []))) e (rw d at h)) (λ c d. let g : refused c ≡ refused e = rw d at h in let x : c ≡ e = cc in d ∙ ap bad x),
+    λ d. ap (hostIn node) d,
+  )
 
   -- the prefix read gives the same refusal, whatever tables are lent
   pub as-prefix-read : (e : Refusal) → lookup node v s ≡ refused e → (room : Tables) → prefixRead response v room s ≡ (Answers.refused e, room)

@@ -6,17 +6,18 @@ use Prim.Native.Nat.{_+_, _≤_, suc, ℕ}
 use native.Mathlib.Omega.{arith}
 use lib.Dec.{leb, ltb}
 use lib.IntN.{negsuc, pos, ℤ}
-use lib.ListN.{drop, length, length-drop, replicate, take}
-use Rattle.layout.specs.Reading.{Reader, Refusal, Res, bad, because, fail, give, here, more, next, ok, pick, placed, primitive, raw, then}
+use lib.ListN.{drop, length, length-drop, replicate}
+use Rattle.layout.specs.Reading.{Reader, Refusal, Res, bad, because, fail, give, here, ok, pick, primitive, raw, then}
 use Rattle.layout.specs.Primitives.{flag, unsigned}
-use Rattle.layout.specs.Rows.{Shape, Value}
+use Rattle.layout.specs.Rows.{Shape}
 use Rattle.layout.specs.Read.{byPlace, read}
-use Rattle.layout.specs.Tables.{Span, Tables, append, readRows}
+use Rattle.layout.specs.Tables.{Tables, append, readRows}
 use Rattle.layout.specs.Answers.{Message, ended, most, seen, shape}
 use Rattle.layout.proofs.Kept.{Kept, kept-flag, kept-read, kept-unsigned}
-use Rattle.layout.proofs.Link.{keep, link, over}
-use Rattle.layout.proofs.Local.{Local, locals}
-use Rattle.layout.proofs.Tests.{of-lt}
+use Rattle.layout.proofs.Link.{link}
+use Rattle.layout.proofs.Local.{Local, locals, not-ok}
+use Rattle.layout.proofs.Tests.{by-test, of-lt}
+use Rattle.layout.proofs.Steps.{by-result}
 
 -- a refusal of a reader that stands at p before s
 pub record Told (p : ℕ) (s : List ℕ) (e : Refusal) : Type 0 where
@@ -29,70 +30,53 @@ pub record Told (p : ℕ) (s : List ℕ) (e : Refusal) : Type 0 where
 pub record Tells {A : Type 0} (r : Reader A) : Type 0 where
   pub law : (p : ℕ) (s : List ℕ) (e : Refusal) → r p s ≡ bad e → Told p s e
 
--- no value is a refusal
-not-bad : {A X : Type 0} {e : Refusal} {x : A} {n : ℕ} → ok x n ≡ bad e → X
-not-bad h = let z : _≡_ {A = ℕ} 0 1 = cc in absurd (omega arith)
-
 told : (p : ℕ) (s : List ℕ) (n : ℕ) → 3 ≤ n → n ≤ 8 → (e : Refusal) → because n p ≡ e → Told p s e
 told p s n h g e x =
     subst (Told p s) x (record { least = h; greatest = g; behind = omega arith; before-end = omega arith; no-need = refl })
-
-tells-give : {A : Type 0} (x : A) → Tells (give x)
-unfolding give
-tells-give x = record { law = λ p s e h. not-bad h }
-
-tells-fail : {A : Type 0} (n : ℕ) → 3 ≤ n → n ≤ 8 → Tells (fail {A = A} n)
-unfolding fail
-tells-fail n h g = record { law = λ p s e d. let x : because n p ≡ e = cc in told p s n h g e x }
 
 tells-pick : {A : Type 0} (b : Bool) (r q : Reader A) → Tells r → Tells q → Tells (pick b r q)
 unfolding pick
 tells-pick true r q hr hq = hr
 tells-pick false r q hr hq = hq
 
-tells-here : {A : Type 0} (r : ℕ → Reader A) → ((p : ℕ) → Tells (r p)) → Tells (here r)
-unfolding here
-tells-here r h = record { law = λ p s e d. h p .law p s e d }
-
-tells-raw : (n : ℕ) → Tells (raw n)
-unfolding raw
-tells-raw n = record { law = λ p s e d. go p s e (leb n (length s)) d }
-  where
-    go : (p : ℕ) (s : List ℕ) (e : Refusal) (b : Bool) → cond b (ok (take n s) n) (bad (because 3 p)) ≡ bad e → Told p s e
-    go p s e true d = not-bad d
-    go p s e false d = let x : because 3 p ≡ e = cc in told p s 3 (omega arith) (omega arith) e x
+-- a refusal is the same whatever would have been read
+same-bad : {A B : Type 0} {c e : Refusal} → _≡_ {A = Res A} (bad c) (bad e) → _≡_ {A = Res B} (bad c) (bad e)
+same-bad {A} {B} {c} {e} h = let x : c ≡ e = cc in ap bad x
 
 tells-primitive : {A : Type 0} (r : Reader A) → Tells r → Tells (primitive r)
 unfolding primitive
-tells-primitive {A} r h = record { law = λ p s e d. go p s e (r p s) refl d }
-  where
-    go : (p : ℕ) (s : List ℕ) (e : Refusal) (o : Res A) → r p s ≡ o → placed p o ≡ bad e → Told p s e
-    go p s e (ok x n) i d = not-bad d
-    go p s e (bad c) i d = let t = h .law p s c i in let x : because (c .number) p ≡ e = cc in told p s (c .number) (t .least) (t .greatest) e x
+tells-primitive r h = record {
+  law = λ p s e d.
+      by-result (r p s) (λ x n i. not-ok (sym (rw i at d)))
+      (λ c i. let t = h .law p s c i in let g : bad (because (c .number) p) ≡ bad e = rw i at d in let x : because (c .number) p ≡ e = cc in told p s (c .number) (t .least) (t .greatest) e x);
+}
 
 tells-then : {A B : Type 0} (r : Reader A) (f : A → Reader B) → Local r → Tells r → ((x : A) → Tells (f x)) → Tells (then r f)
 unfolding then
-tells-then {A} {B} r f l hr hf = record { law = λ p s e d. go p s e (r p s) refl d }
-  where
-    inner : (p : ℕ) (s : List ℕ) (e : Refusal) (n : ℕ) → n ≤ length s → (o : Res B) → (bad-of : (c : Refusal) → o ≡ bad c → Told (p + n) (drop n s) c) → more n o ≡ bad e → Told p s e
-    inner p s e n h (ok y m) g d = not-bad d
-    inner p s e n h (bad c) g d =
-        let x : c ≡ e = cc in
-        let t = g c refl in
-        subst (Told p s) x (record { least = t .least; greatest = t .greatest; behind = (let b = t .behind in omega arith); before-end = (let b = t .before-end in omega (arith, length-drop n s)); no-need = t .no-need })
-
-    go : (p : ℕ) (s : List ℕ) (e : Refusal) (o : Res A) → r p s ≡ o → next o f p s ≡ bad e → Told p s e
-    go p s e (ok x n) i d = inner p s e n (l .law p s x n i .fits) (f x (p + n) (drop n s)) (λ c k. hf x .law (p + n) (drop n s) c k) d
-    go p s e (bad c) i d = let x : c ≡ e = cc in hr .law p s e (i ∙ ap bad x)
+tells-then r f l hr hf = record {
+  law = λ p s e d.
+      by-result (r p s)
+      (λ x n i. by-result (f x (p + n) (drop n s)) (λ y k c. not-ok (sym (rw (i, c) at d)))
+      (λ c k.
+      let t = hf x .law (p + n) (drop n s) e (k ∙ (rw (i, k) at d)) in
+      record { least = t .least; greatest = t .greatest; behind = omega (arith, t .behind); before-end = omega (arith, t .before-end, l .law p s x n i .fits, length-drop n s); no-need = t .no-need }))
+      (λ c i. hr .law p s e (i ∙ same-bad (rw i at d)));
+}
 
 -- readers that are local and tell so: every step keeps it
 telling : Kept (λ A r q. Local r × Tells r)
+unfolding give fail raw here
 telling = record {
-  on-give = λ x. (locals .on-give x, tells-give x);
-  on-fail = λ n h g. (locals .on-fail n h g, tells-fail n h g);
-  on-raw = λ n. (locals .on-raw n, tells-raw n);
+  on-give = λ x. (locals .on-give x, record { law = λ p s e d. not-ok (sym d) });
+  on-fail = λ n h g. (locals .on-fail n h g, record { law = λ p s e d. told p s n h g e (cc) });
+  on-raw = λ n. (
+    locals .on-raw n,
+    record {
+      law = λ p s e d. by-test (leb n (length s)) (λ t. not-ok (sym (rw t at d))) (λ t. let g : bad (because 3 p) ≡ bad e = rw t at d in told p s 3 (omega arith) (omega arith) e (cc));
+    },
+  );
   on-pick = λ b r r′ q q′ h g. (locals .on-pick b r r q q (h .0) (g .0), tells-pick b r q (h .1) (g .1));
-  on-here = λ r r′ h. (locals .on-here r r (λ p. h p .0), tells-here r (λ p. h p .1));
+  on-here = λ r r′ h. (locals .on-here r r (λ p. h p .0), record { law = λ p s e d. h p .1 .law p s e d });
   on-primitive = λ r r′ h. (locals .on-primitive r r (h .0), tells-primitive r (h .1));
   on-then = λ r r′ f f′ h g. (locals .on-then r r f f (h .0) (λ x. g x .0), tells-then r f (h .0) (h .1) (λ x. g x .1));
 }
@@ -101,11 +85,11 @@ tells-read : (w : Bool) (l : Shape) → Tells (read (byPlace w) l)
 tells-read w l = kept-read telling _ w _ unsigned _ flag (kept-unsigned telling) (kept-flag telling) l .1
 
 pub tells-rows : (w : Bool) {S : Type 0} (add : ℕ → List ℕ → S → S) (l : Shape) (o : ℕ) (st : S) → Tells (readRows w add l o st)
-tells-rows w add l o st = record { law = λ p s e d. go p s e (read (byPlace w) l p s) refl (sym (link w add l o st .law p s) ∙ d) }
-  where
-    go : (p : ℕ) (s : List ℕ) (e : Refusal) (x : Res (Value Span l)) → read (byPlace w) l p s ≡ x → over (λ x. keep add l o x st) x ≡ bad e → Told p s e
-    go p s e (ok x n) i d = not-bad d
-    go p s e (bad c) i d = let x : c ≡ e = cc in tells-read w l .law p s e (i ∙ ap bad x)
+tells-rows w add l o st = record {
+  law = λ p s e d.
+      let q = sym (link w add l o st .law p s) ∙ d in
+      by-result (read (byPlace w) l p s) (λ x n i. not-ok (sym (rw i at q))) (λ c i. tells-read w l .law p s e (i ∙ same-bad (rw i at q)));
+}
 
 -- what a call refuses before it looks at the room
 pub record Refuses (s : List ℕ) (e : Refusal) : Type 0 where
@@ -124,14 +108,14 @@ seen-refuses w m (pos v) s e d = go (leb v (m .last)) (leb (length s) most) (rea
   where
     over-end : (st : Tables) (n : ℕ) (b : Bool) → ltb n (length s) ≡ b → cond b (bad (because 9 n)) (ok st n) ≡ bad e → Refuses s e
     over-end st n true h d = let x : because 9 n ≡ e = cc in subst (Refuses s) x (record { least = omega arith; greatest = omega arith; place-in = (let g = of-lt n (length s) h in omega arith); no-need = refl })
-    over-end st n false h d = not-bad d
+    over-end st n false h d = not-ok (sym d)
 
     inside : (c : Refusal) → Told 0 s c → c ≡ e → Refuses s e
     inside c t x = subst (Refuses s) x (record { least = (let h = t .least in omega arith); greatest = (let h = t .greatest in omega arith); place-in = (let h = t .before-end in omega arith); no-need = t .no-need })
 
     go : (a b : Bool) (o : Res Tables) → readRows w append (shape m v) 0 (replicate (suc (m .tables)) []) 0 s ≡ o → (q : Bool) → cond a (cond b (ended q (length s) o) (bad (because 2 0))) (bad (because 1 0)) ≡ bad e → Refuses s e
     go true true (ok st n) i true d = over-end st n (ltb n (length s)) refl d
-    go true true (ok st n) i false d = not-bad d
+    go true true (ok st n) i false d = not-ok (sym d)
     go true true (bad c) i true d = inside c (tells-rows w append (shape m v) 0 _ .law 0 s c i) (cc)
     go true true (bad c) i false d = inside c (tells-rows w append (shape m v) 0 _ .law 0 s c i) (cc)
     go true false o i q d = early s 2 (omega arith) (omega arith) e (cc)

@@ -7,13 +7,18 @@ use native.Mathlib.Nat.{add-zero}
 use native.Mathlib.Omega.{arith}
 use lib.Dec.{eqb, leb}
 use lib.ListN.{drop, length, take}
-use Rattle.layout.specs.Reading.{Reader, Refusal, Res, bad, because, fail, give, here, many, more, next, ok, pair, pick, placed, primitive, raw, then}
+use Rattle.layout.specs.Reading.{Reader, Refusal, Res, bad, because, fail, give, here, many, more, ok, pair, pick, primitive, raw, then}
 use Rattle.layout.specs.Primitives.{be, checked, int}
 use Rattle.layout.proofs.Tests.{le-false, le-true, of-eq, of-le}
 
 -- a refusal is no answer
 pub not-ok : {A X : Type 0} {e : Refusal} {x : A} {n : ℕ} → bad e ≡ ok x n → X
 not-ok h = let z : _≡_ {A = ℕ} 0 1 = cc in absurd (omega arith)
+
+-- a reader accepts or refuses
+pub by-result : {A P : Type 0} (o : Res A) → ((x : A) (n : ℕ) → o ≡ ok x n → P) → ((e : Refusal) → o ≡ bad e → P) → P
+by-result (ok x n) h g = h x n refl
+by-result (bad e) h g = g e refl
 
 -- what is accepted has passed its tests
 pub passed : {A : Type 0} (b : Bool) (o : Res A) (e : Refusal) (x : A) (n : ℕ) → cond b o (bad e) ≡ ok x n → (b ≡ true) × (o ≡ ok x n)
@@ -56,15 +61,12 @@ pub record Split {A B : Type 0} (r : Reader A) (f : A → Reader B) (p : ℕ) (s
 
 pub split : {A B : Type 0} (r : Reader A) (f : A → Reader B) (p : ℕ) (s : List ℕ) (y : B) (m : ℕ) → then r f p s ≡ ok y m → Split r f p s y m
 unfolding then
-split {A} {B} r f p s y m e = go (r p s) refl e
-  where
-    inner : (x : A) (n : ℕ) → r p s ≡ ok x n → (o : Res B) → f x (p + n) (drop n s) ≡ o → more n o ≡ ok y m → Split r f p s y m
-    inner x n d (ok z k) c e = record { x = x; n = n; k = k; first = d; second = c ∙ cc; sum = cc }
-    inner x n d (bad w) c e = not-ok e
-
-    go : (o : Res A) → r p s ≡ o → next o f p s ≡ ok y m → Split r f p s y m
-    go (ok x n) d e = inner x n d (f x (p + n) (drop n s)) refl e
-    go (bad c) d e = not-ok e
+split r f p s y m e =
+    by-result (r p s)
+    (λ x n d. by-result (f x (p + n) (drop n s))
+    (λ z k c. let g : ok z (n + k) ≡ ok y m = rw (d, c) at e in record { x = x; n = n; k = k; first = d; second = c ∙ cc; sum = cc })
+    (λ w c. not-ok (rw (d, c) at e)))
+    (λ c d. not-ok (rw d at e))
 
 pub record Raw (n : ℕ) (s x : List ℕ) (m : ℕ) : Type 0 where
   pub fits : n ≤ length s
@@ -122,11 +124,7 @@ many-uncons r i p s ys k e =
 
 pub primitive-inv : {A : Type 0} (r : Reader A) (p : ℕ) (s : List ℕ) (x : A) (n : ℕ) → primitive r p s ≡ ok x n → r p s ≡ ok x n
 unfolding primitive
-primitive-inv {A} r p s x n e = go (r p s) refl e
-  where
-    go : (o : Res A) → r p s ≡ o → placed p o ≡ ok x n → r p s ≡ ok x n
-    go (ok y m) d e = d ∙ e
-    go (bad c) d e = not-ok e
+primitive-inv r p s x n e = by-result (r p s) (λ y m d. d ∙ (rw d at e)) (λ c d. not-ok (rw d at e))
 
 -- n bytes that pass the test t, and what is made of them
 pub record Piece {X : Type 0} (t : List ℕ → Bool) (make : ℕ → List ℕ → X) (n p : ℕ) (s : List ℕ) (x : X) (m : ℕ) : Type 0 where
@@ -146,11 +144,9 @@ piece-inv t make n p s x m e = let a = split (raw n) _ p s x m e in go (a .x) (a
 -- a primitive refuses at its own start, and asks for nothing
 pub primitive-place : {A : Type 0} (r : Reader A) (p : ℕ) (s : List ℕ) (e : Refusal) → primitive r p s ≡ bad e → e ≡ because (e .number) p
 unfolding primitive
-primitive-place {A} r p s e h = go (r p s) h
-  where
-    go : (o : Res A) → placed p o ≡ bad e → e ≡ because (e .number) p
-    go (ok x n) h = let z : _≡_ {A = ℕ} 0 1 = cc in absurd (omega arith)
-    go (bad c) h = let x : because (c .number) p ≡ e = cc in sym x ∙ ap (λ (d : Refusal). because (d .number) p) x
+primitive-place r p s e h =
+    by-result (r p s) (λ x n d. not-ok (sym (rw d at h)))
+    (λ c d. let g : bad (because (c .number) p) ≡ bad e = rw d at h in let x : because (c .number) p ≡ e = cc in sym x ∙ ap (λ (d : Refusal). because (d .number) p) x)
 
 pub length-many : {A : Type 0} (r : Reader A) (n p : ℕ) (s : List ℕ) (xs : List A) (k : ℕ) → many n r p s ≡ ok xs k → length xs ≡ n
 length-many r zero p s xs k e = let d = many-none r p s in let y : xs ≡ [] = cc in ap length y

@@ -20,7 +20,7 @@ use Rattle.layout.specs.Write.{each, write, writeBasic}
 use Rattle.layout.proofs.Cells.{extend, extend-bytes, powers}
 use Rattle.layout.proofs.Every.{All}
 use Rattle.layout.proofs.Local.{not-ok}
-use Rattle.layout.proofs.Steps.{checked-inv, checked-some, int-inv, length-many, many-none, many-uncons, pair-inv, passed, piece-inv, primitive-inv, split, then-ok}
+use Rattle.layout.proofs.Steps.{by-result, checked-inv, checked-some, int-inv, length-many, many-none, many-uncons, pair-inv, passed, piece-inv, primitive-inv, split, then-ok}
 use Rattle.layout.proofs.Kept.{Kept, kept-read}
 
 abbrev pub Bytes : List ℕ → Type 0
@@ -270,22 +270,15 @@ unfolding pick
 refines-pick true r q r′ q′ h k = h
 refines-pick false r q r′ q′ h k = k
 
-refines-here : {A : Type 0} (r q : ℕ → Reader A) → ((p : ℕ) → Refines (r p) (q p)) → Refines (here r) (here q)
-unfolding here
-refines-here r q h = record { law = λ p s x n e. h p .law p s x n e }
-
-refines-primitive : {A : Type 0} (r q : Reader A) → Refines r q → Refines (primitive r) (primitive q)
-unfolding primitive
-refines-primitive r q h = record { law = λ p s x n e. ap (placed p) (h .law p s x n (primitive-inv r p s x n e)) }
-
 refining : Kept (λ A r q. Refines r q)
+unfolding here primitive
 refining = record {
   on-give = λ x. refines-same _;
   on-fail = λ e h g. refines-same _;
   on-raw = λ n. refines-same _;
   on-pick = λ b r r′ q q′ h k. refines-pick b r q r′ q′ h k;
-  on-here = λ r r′ h. refines-here r r′ h;
-  on-primitive = λ r r′ h. refines-primitive r r′ h;
+  on-here = λ r r′ h. record { law = λ p s x n e. h p .law p s x n e };
+  on-primitive = λ r r′ h. record { law = λ p s x n e. ap (placed p) (h .law p s x n (primitive-inv r p s x n e)) };
   on-then = λ r r′ f f′ h k. refines-then r r′ f f′ h k;
 }
 
@@ -316,16 +309,15 @@ exact e₀ w r p s = exactly e₀ w p s (r p s)
 
 exact-inv : {A : Type 0} (e₀ : ℕ) (w : A → List ℕ) (r : Reader A) (p : ℕ) (s : List ℕ) (x : A) (n : ℕ) → exact e₀ w r p s ≡ ok x n → (r p s ≡ ok x n) × (w x ≡ take n s)
 unfolding exact
-exact-inv {A} e₀ w r p s x n h = go (r p s) refl h
-  where
-    go : (o : Res A) → r p s ≡ o → exactly e₀ w p s o ≡ ok x n → (r p s ≡ ok x n) × (w x ≡ take n s)
-    go (ok y m) d h =
-        let a = passed (sameList (w y) (take m s)) (ok y m) _ x n h in
-        let c = a .1 in
-        let i : y ≡ x = cc in
-        let j : m ≡ n = cc in
-        (d ∙ c, rw (i, j) at (same-list (w y) (take m s) (rw (a .0) tt)))
-    go (bad e) d h = not-ok h
+exact-inv e₀ w r p s x n h =
+    by-result (r p s)
+    (λ y m d.
+    let a = passed (sameList (w y) (take m s)) (ok y m) _ x n (rw d at h) in
+    let c = a .1 in
+    let i : y ≡ x = cc in
+    let j : m ≡ n = cc in
+    (d ∙ c, rw (i, j) at (same-list (w y) (take m s) (rw (a .0) tt))))
+    (λ e d. not-ok (rw d at h))
 
 pub canon-exact : {A : Type 0} (e₀ : ℕ) (w : A → List ℕ) (r : Reader A) → Canon (exact e₀ w r) w (λ x. Unit {0})
 canon-exact e₀ w r = record { law = λ p s x n b h. record { same = exact-inv e₀ w r p s x n h .1; fact = tt } }
