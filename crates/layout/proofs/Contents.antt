@@ -196,11 +196,7 @@ module _ (W : ℕ → ℕ) where
   rows-wide t (field k r) x h = rows-wide t r (x .1) h
   rows-wide t (absent k r) x h = rows-wide t r x h
   rows-wide t (array z u i r) x h =
-      all-append (Row t) (flatten (λ y. cond (eqb t u) (rowCells i y ∷ []) (rowsIn t i y)) (listOf (keeps z) (x .0))) (rowsIn t r (x .1)) (all-flatten (Row t) (λ y. cond (eqb t u) (rowCells i y ∷ []) (rowsIn t i y)) (λ y. go y (rows-wide t i y (h .1)) (eqb t u) refl) (listOf (keeps z) (x .0))) (rows-wide t r (x .1) (h .2))
-    where
-      go : (y : Value Span i) → All (Row t) (rowsIn t i y) → (b : Bool) → eqb t u ≡ b → All (Row t) (cond b (rowCells i y ∷ []) (rowsIn t i y))
-      go y a true e = (row-width i y ∙ sym (h .0) ∙ ap W (sym (of-eq t u e)), tt)
-      go y a false e = a
+      all-append (Row t) (flatten (λ y. cond (eqb t u) (rowCells i y ∷ []) (rowsIn t i y)) (listOf (keeps z) (x .0))) (rowsIn t r (x .1)) (all-flatten (Row t) (λ y. cond (eqb t u) (rowCells i y ∷ []) (rowsIn t i y)) (λ y. by-test (eqb t u) (λ e. rw e (row-width i y ∙ sym (h .0) ∙ ap W (sym (of-eq t u e)), tt)) (λ e. rw e (rows-wide t i y (h .1)))) (listOf (keeps z) (x .0))) (rows-wide t r (x .1) (h .2))
   rows-wide t (lacking z u i r) x h = rows-wide t r x h
 
 pub joined-length : (w : ℕ) (rs : List (List ℕ)) → All (λ r. length r ≡ w) rs → length (joined rs) ≡ length rs * w

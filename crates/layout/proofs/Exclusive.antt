@@ -12,7 +12,7 @@ use Rattle.layout.specs.Primitives.{Width, be, cell, checked, compact, e
 use Rattle.layout.specs.Rows.{Basic, Shape, Value, absent, array, at, blob, end, field, lacking, natural, number, optional, standing, stands, tagRows}
 use Rattle.layout.specs.Read.{byBytes, read, readBasic}
 use Rattle.layout.specs.Answers.{most, shape}
-use Rattle.layout.proofs.Tests.{nonzero}
+use Rattle.layout.proofs.Tests.{by-test, nonzero}
 use Rattle.layout.proofs.Local.{not-ok}
 use Rattle.layout.proofs.Steps.{Number, checked-inv, checked-some, int-inv, int-ok, many-none, many-uncons, pair-inv, split}
 use Rattle.layout.specs.Messages.ApiVersions as Api
@@ -71,12 +71,10 @@ count-inv : (p : ℕ) (s : List ℕ) (n a : ℕ) → lengthOf unsigned (fixed w3
 unfolding lengthOf pick give fail
 count-inv p s n a h =
     let b = split (int 4) _ p s (n + 1) a h in
-    go (b .x) (b .n) (b .k) _ (b .sum) (int-inv 4 p s (b .x) (b .n) (b .first)) (ltb (b .x) 2147483648) (eqb (b .x) 4294967295) (b .second)
-  where
-    go : (x i j q : ℕ) → a ≡ i + j → Number 4 s x i → (t u : Bool) → pick t (give (x + 1)) (pick u (give 0) (fail q)) (p + i) (drop i s) ≡ ok (n + 1) j → Number 4 s n a
-    go x i j q e c true u g = let w : x + 1 ≡ n + 1 = cc in let v : 0 ≡ j = cc in record { fits = c .fits; is = omega (arith, c .is); used = omega (arith, c .used) }
-    go x i j q e c false true g = let w : 0 ≡ n + 1 = cc in absurd (omega arith)
-    go x i j q e c false false g = not-ok g
+    let c = int-inv 4 p s (b .x) (b .n) (b .first) in
+    by-test (ltb (b .x) 2147483648)
+    (λ d. let g : ok (b .x + 1) 0 ≡ ok (n + 1) (b .k) = rw d at (b .second) in let w : b .x + 1 ≡ n + 1 = cc in let v : 0 ≡ b .k = cc in record { fits = c .fits; is = omega (arith, c .is); used = omega (arith, b .sum, c .used) })
+    (λ d. by-test (eqb (b .x) 4294967295) (λ e. let g : ok 0 0 ≡ ok (n + 1) (b .k) = rw (d, e) at (b .second) in let w : 0 ≡ n + 1 = cc in absurd (omega arith)) (λ e. not-ok (rw (d, e) at (b .second))))
 
 -- ---- readers that always use as many bytes
 

@@ -144,11 +144,8 @@ module _ (size : ℕ) where
     rows-good (absent c r) x k z h = rows-good r x k z h
     rows-good (array s u i r) x k z h =
         all-append Is (flatten (λ y. cond (eqb t u) (rowCells i y ∷ []) (rowsIn t i y)) (listOf (keeps s) (x .0))) (rowsIn t r (x .1))
-        (in-flatten Is (Every half InSize i) (λ y. cond (eqb t u) (rowCells i y ∷ []) (rowsIn t i y)) (λ y q. go y q (rows-good i y (k .1) (z .0) q) (eqb t u) refl) (listOf (keeps s) (x .0)) (few-list half _ (keeps s) (x .0) (lit< tt) (h .0) .1)) (rows-good r (x .1) (k .2) (z .1) (h .1))
-      where
-        go : (y : Value Span i) → Every half InSize i y → All Is (rowsIn t i y) → (b : Bool) → eqb t u ≡ b → All Is (cond b (rowCells i y ∷ []) (rowsIn t i y))
-        go y q a true e = (ap (λ (j : Shape). goodRow size j (rowCells i y)) (ap (λ (w : ℕ). kindOf w L) (of-eq t u e) ∙ k .0) ∙ good-row i y (z .0) q, tt)
-        go y q a false e = a
+        (in-flatten Is (Every half InSize i) (λ y. cond (eqb t u) (rowCells i y ∷ []) (rowsIn t i y)) (λ y q. by-test (eqb t u)
+        (λ e. rw e (ap (λ (j : Shape). goodRow size j (rowCells i y)) (ap (λ (w : ℕ). kindOf w L) (of-eq t u e) ∙ k .0) ∙ good-row i y (z .0) q, tt)) (λ e. rw e (rows-good i y (k .1) (z .0) q))) (listOf (keeps s) (x .0)) (few-list half _ (keeps s) (x .0) (lit< tt) (h .0) .1)) (rows-good r (x .1) (k .2) (z .1) (h .1))
     rows-good (lacking s u i r) x k z h = rows-good r x k (z .1) h
 
 -- ---- the counts add up
@@ -174,21 +171,17 @@ module _ (P : Span → Type 0) (L : Shape) (n t : ℕ) where
   -- an item's row and those below it, table by table
   item-total : (i : Shape) (v : ℕ) (y : Value Span i) → Free v i → kindOf v L ≡ i → 1 ≤ v → v < 1 + n → sum (λ u. sum (asks u) (part i v y u)) (from 1 n) ≡ total i y
   item-total i v y free k low high =
-      sum-eq _ _ (λ u. go u (eqb u v)) (from 1 n)
+      sum-eq _ _ (λ u. by-test (eqb u v) (λ e. rw e (unfold sum in add-zero _)) (λ e. rw e)) (from 1 n)
       ∙ one-of (λ u. asks u (rowCells i y)) (λ u. sum (asks u) (rowsIn u i y)) v 1 n low high (ap (sum (asks v)) (free-rows v i y free) ∙ (unfold sum in refl))
       ∙ ap (λ (j : Shape). asked t j (rowCells i y) + sum (λ u. sum (asks u) (rowsIn u i y)) (from 1 n)) k
-    where
-      go : (u : ℕ) (b : Bool) → sum (asks u) (cond b (rowCells i y ∷ []) (rowsIn u i y)) ≡ cond b (asks u (rowCells i y)) (sum (asks u) (rowsIn u i y))
-      go u true = unfold sum in add-zero _
-      go u false = refl
 
   -- the rows of table t that an array's items bring
   items-rows : (i : Shape) (v : ℕ) → Free v i → (xs : List (Value Span i)) → length (flatten (λ y. part i v y t) xs) ≡ cond (eqb t v) (length xs) 0 + sum (λ y. length (rowsIn t i y)) xs
-  items-rows i v free xs = length-flatten (λ y. part i v y t) xs ∙ go (eqb t v) refl
-    where
-      go : (b : Bool) → eqb t v ≡ b → sum (λ y. length (cond b (rowCells i y ∷ []) (rowsIn t i y))) xs ≡ cond b (length xs) 0 + sum (λ y. length (rowsIn t i y)) xs
-      go true e = sum-ones xs ∙ sym (ap (λ (m : ℕ). length xs + m) (sum-zero _ (λ y. ap length (free-rows t i y (subst (λ (w : ℕ). Free w i) (sym (of-eq t v e)) free))) xs) ∙ add-zero (length xs))
-      go false e = sym (zero-add _)
+  items-rows i v free xs =
+      length-flatten (λ y. part i v y t) xs
+      ∙ by-test (eqb t v)
+      (λ e. rw e (sum-ones xs ∙ sym (ap (λ (m : ℕ). length xs + m) (sum-zero _ (λ y. ap length (free-rows t i y (subst (λ (w : ℕ). Free w i) (sym (of-eq t v e)) free))) xs) ∙ add-zero (length xs))))
+      (λ e. rw e (sym (zero-add _)))
 
   array-adds : (A B C D E F G N S R : ℕ) → S ≡ A + B → C ≡ D + E → D ≡ F → B + E ≡ G → N ≡ A + F → R ≡ N + G → S + C ≡ R
   array-adds A B C D E F G N S R a b c d e f = omega arith

@@ -15,12 +15,12 @@ use Rattle.layout.specs.Primitives.{Maybe, Size, Width, cell, checked, c
 use Rattle.layout.specs.Rows.{Basic, BasicValue, Shape, Value, absent, array, blob, boolean, end, field, lacking, level, natural, number, optional, text}
 use Rattle.layout.specs.Read.{byBytes, byPlace, read, readBasic, readBlob, readText}
 use Rattle.layout.specs.Tables.{Span, slice}
-use Rattle.layout.proofs.Tests.{of-lt}
+use Rattle.layout.proofs.Tests.{by-test, of-lt}
 use Rattle.layout.proofs.Link.{Text, by-bytes, by-place, byBoth, bytesOf, mapBasic, mapMaybe, mapValue, over, placeOf, under}
 use Rattle.layout.proofs.Every.{All, Every, EveryBasic, EveryMaybe, Few}
 use Rattle.layout.proofs.Gives.{Gives, Ground, gives-give, gives-local, gives-many, gives-pair, gives-part, gives-primitive, gives-sized}
 use Rattle.layout.proofs.Kept.{kept-cell, kept-length}
-use Rattle.layout.proofs.Local.{local-flag, local-unsigned, locals}
+use Rattle.layout.proofs.Local.{local-flag, local-unsigned, locals, not-ok}
 use Rattle.layout.proofs.Steps.{Raw, int-inv, many-uncons, primitive-inv, split}
 
 -- ---- varints are below 2^64, and take a byte at least
@@ -47,19 +47,19 @@ groups-inv : (k m a p : ℕ) (s : List ℕ) (x n : ℕ) → groups k m a p s ≡
 unfolding groups pick give fail
 groups-inv zero m a p s x n h =
     let d = split (int 1) _ p s x n h in
-    go (d .x) (d .n) (d .k) _ (d .sum) (int-inv 1 p s (d .x) (d .n) (d .first) .used) (ltb (d .x) 128) refl (d .second)
-  where
-    go : (b j i c : ℕ) → n ≡ j + i → j ≡ 1 → (t : Bool) → ltb b 128 ≡ t → pick t (give (a + b % 2 * m)) (fail c) (p + j) (drop j s) ≡ ok x i → Group zero m a x n
-    go b j i c o u true e g = let z : a + b % 2 * m ≡ x = cc in record { v = b % 2; is = sym z; small = omega arith; some-byte = omega arith }
-    go b j i c o u false e g = let z : _≡_ {A = ℕ} 0 1 = cc in absurd (omega arith)
+    let u = int-inv 1 p s (d .x) (d .n) (d .first) .used in
+    by-test (ltb (d .x) 128)
+    (λ e. let g : ok (a + d .x % 2 * m) 0 ≡ ok x (d .k) = rw e at (d .second) in let z : a + d .x % 2 * m ≡ x = cc in record { v = d .x % 2; is = sym z; small = omega arith; some-byte = omega (arith, d .sum) })
+    (λ e. not-ok (rw e at (d .second)))
 groups-inv (suc k) m a p s x n h =
     let d = split (int 1) _ p s x n h in
-    go (d .x) (d .n) (d .k) (λ y. groups-inv k _ _ _ _ x _ y) (d .sum) (int-inv 1 p s (d .x) (d .n) (d .first) .used) (ltb (d .x) 128) refl (d .second)
-  where
-    go : (b j i : ℕ) → (groups k (m * 128) (a + b % 128 * m) (p + j) (drop j s) ≡ ok x i → Group k (m * 128) (a + b % 128 * m) x i) → n ≡ j + i → j ≡ 1 → (t : Bool) → ltb b 128 ≡ t →
-        pick t (give (a + b * m)) (groups k (m * 128) (a + b % 128 * m)) (p + j) (drop j s) ≡ ok x i → Group (suc k) m a x n
-    go b j i rec o u true e g = let z : a + b * m ≡ x = cc in record { v = b; is = sym z; small = (let l = of-lt b 128 e in let q = pow-pos k in omega (arith, pow-suc 128 k)); some-byte = omega arith }
-    go b j i rec o u false e g = let r = rec g in group-more k m a b (r .v) x n n (r .is) (r .small) (omega arith) refl
+    let u = int-inv 1 p s (d .x) (d .n) (d .first) .used in
+    by-test (ltb (d .x) 128)
+    (λ e.
+        let g : ok (a + d .x * m) 0 ≡ ok x (d .k) = rw e at (d .second) in
+        let z : a + d .x * m ≡ x = cc in
+        record { v = d .x; is = sym z; small = omega (arith, of-lt (d .x) 128 e, pow-pos k, pow-suc 128 k); some-byte = omega (arith, d .sum) })
+    (λ e. let r = groups-inv k _ _ _ _ x _ (rw e at (d .second)) in group-more k m a (d .x) (r .v) x n n (r .is) (r .small) (omega (arith, d .sum)) refl)
 
 pub unsigned-small : (p : ℕ) (s : List ℕ) (x n : ℕ) → unsigned p s ≡ ok x n → (x ≤ minus) × (1 ≤ n)
 unfolding unsigned

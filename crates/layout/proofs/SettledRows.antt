@@ -23,7 +23,7 @@ use Rattle.layout.proofs.Parts.{Eating}
 use Rattle.layout.proofs.Parts as Parts
 use Rattle.layout.proofs.Same.{same-tables}
 use Rattle.layout.proofs.Settled.{Held, Telling, asBack, asIs, comes-settled, holds, map-cell, ofValue, settled, shown, shown-absent, shown-basic, shown-lacking, told}
-use Rattle.layout.proofs.Tests.{of-eq, of-ne}
+use Rattle.layout.proofs.Tests.{by-test, of-eq, of-ne}
 use Rattle.layout.proofs.Trip.{Laid}
 
 -- ---- one pop
@@ -199,16 +199,14 @@ module _ (h : Telling) where
     module _ (N : ℕ) (low : t < N) where
       took-item : (i : Shape) (u : ℕ) (st : Tables) → length st ≡ N → Free u i → (eqb t u ≡ true → i ≡ K) → (eqb t u ≡ false → Took (rowsHeld t i (told h i u st .0)) (getD st t []) (getD (told h i u st .1) t [])) →
           Took (cond (eqb t u) (own i (told h i u st .0) ∷ []) (rowsHeld t i (told h i u st .0))) (getD st t []) (getD (told h i u st .1) t [])
-      took-item i u st e f same rec = go (eqb t u) refl
+      took-item i u st e f same rec = by-test (eqb t u) (λ d. rw d (here d (of-eq t u d))) (λ d. rw d (rec d))
         where
-          go : (b : Bool) → eqb t u ≡ b → Took (cond b (own i (told h i u st .0) ∷ []) (rowsHeld t i (told h i u st .0))) (getD st t []) (getD (told h i u st .1) t [])
-          go true d =
-              let z : t ≡ u = of-eq t u d in
-              let a : u < length st = subst (λ (n : ℕ). u < n) (sym e) (subst (λ (n : ℕ). n < N) z low) in (
+          here : eqb t u ≡ true → t ≡ u → Took (own i (told h i u st .0) ∷ []) (getD st t []) (getD (told h i u st .1) t [])
+          here d z =
+              let a : u < length st = omega (arith, e, low, z) in (
                 own-row i u st a f ∙ ap (λ (n : ℕ). row h i (getD st n [])) (sym z) ∙ ap (λ (k : Shape). row h k (getD st t [])) (same d),
                 sym (ap (λ (n : ℕ). getD (told h i u st .1) n []) z ∙ own-left i u st a f ∙ ap (λ (n : ℕ). drop (rowWidth i) (getD st n [])) (sym z) ∙ ap (λ (k : Shape). drop (rowWidth k) (getD st t [])) (same d)),
               )
-          go false d = rec d
 
       pub took : (l : Shape) (o : ℕ) (st : Tables) → length st ≡ N → eqb t o ≡ false → Tree l → Alike t K l → Took (rowsHeld t l (told h l o st .0)) (getD st t []) (getD (told h l o st .1) t [])
       unfolding told rowsHeld

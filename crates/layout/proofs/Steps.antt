@@ -9,7 +9,7 @@ use lib.Dec.{eqb, leb}
 use lib.ListN.{drop, length, take}
 use Rattle.layout.specs.Reading.{Reader, Refusal, Res, bad, because, fail, give, here, many, more, ok, pair, pick, primitive, raw, then}
 use Rattle.layout.specs.Primitives.{be, checked, int}
-use Rattle.layout.proofs.Tests.{le-false, le-true, of-eq, of-le}
+use Rattle.layout.proofs.Tests.{by-test, le-false, le-true, of-eq, of-le}
 
 -- a refusal is no answer
 pub not-ok : {A X : Type 0} {e : Refusal} {x : A} {n : ℕ} → bad e ≡ ok x n → X
@@ -135,11 +135,15 @@ pub record Piece {X : Type 0} (t : List ℕ → Bool) (make : ℕ → List ℕ �
 
 pub piece-inv : {X : Type 0} (t : List ℕ → Bool) (make : ℕ → List ℕ → X) (n p : ℕ) (s : List ℕ) (x : X) (m : ℕ) → here (λ p. then (raw n) (λ b. pick (t b) (give (make p b)) (fail 7))) p s ≡ ok x m → Piece t make n p s x m
 unfolding here pick give fail
-piece-inv t make n p s x m e = let a = split (raw n) _ p s x m e in go (a .x) (a .n) (a .k) (a .sum) (raw-inv n p s (a .x) (a .n) (a .first)) (t (a .x)) refl (a .second)
-  where
-    go : (b : List ℕ) (i k : ℕ) → m ≡ i + k → Raw n s b i → (c : Bool) → t b ≡ c → pick c (give (make p b)) (fail 7) (p + i) (drop i s) ≡ ok x k → Piece t make n p s x m
-    go b i k u r true d g = let z : 0 ≡ k = cc in record { b = b; is-raw = record { fits = r .fits; is = r .is; used = omega (arith, r .used) }; passes = d; is = cc }
-    go b i k u r false d g = not-ok g
+piece-inv t make n p s x m e =
+    let a = split (raw n) _ p s x m e in
+    let r = raw-inv n p s (a .x) (a .n) (a .first) in
+    by-test (t (a .x))
+    (λ d.
+        let g : ok (make p (a .x)) 0 ≡ ok x (a .k) = rw d at (a .second) in
+        let z : 0 ≡ a .k = cc in
+        record { b = a .x; is-raw = record { fits = r .fits; is = r .is; used = omega (arith, a .sum, r .used) }; passes = d; is = cc })
+    (λ d. not-ok (rw d at (a .second)))
 
 -- a primitive refuses at its own start, and asks for nothing
 pub primitive-place : {A : Type 0} (r : Reader A) (p : ℕ) (s : List ℕ) (e : Refusal) → primitive r p s ≡ bad e → e ≡ because (e .number) p

@@ -66,11 +66,9 @@ record Found (cs : List (List Range)) (s : List ℕ) (n : ℕ) : Type 0 where
 found : (cs : List (List Range)) (s : List ℕ) → 0 < first cs s → Found cs s (first cs s)
 unfolding first
 found [] s h = absurd (omega arith)
-found (c ∷ cs) s h = go (begins c s) refl (λ g. found cs s g) h
-  where
-    go : (b : Bool) → begins c s ≡ b → (0 < first cs s → Found cs s (first cs s)) → 0 < cond b (length c) (first cs s) → Found (c ∷ cs) s (cond b (length c) (first cs s))
-    go true e f h = record { c = c; listed = List·Memᴰ·head refl; size = refl; begun = e }
-    go false e f h = let k = f h in record { c = k .c; listed = List·Memᴰ·tail (k .listed); size = k .size; begun = k .begun }
+found (c ∷ cs) s h =
+    by-test (begins c s) (λ e. rw e (record { c = c; listed = List·Memᴰ·head refl; size = refl; begun = e }))
+    (λ e. let k = found cs s (rw e at h) in rw e (record { c = k .c; listed = List·Memᴰ·tail (k .listed); size = k .size; begun = k .begun }))
 
 pub first-fits : (cs : List (List Range)) (s : List ℕ) → first cs s ≤ length s
 first-fits cs s = go (first cs s) refl
