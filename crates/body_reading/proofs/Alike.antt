@@ -41,5 +41,5 @@ module _ {S U : Type 0} (R : S → U → Type 0) where
 
     pub alike : (w : Bool) (l : Shape) (o : ℕ) (x : S) (y : U) (p : ℕ) (s : List ℕ) → R x y → Alike R (readRows w f l o x p s) (readRows w g l o y p s)
     alike w l o x y p s c =
-        move (sym (link w f l o x .law p s)) (sym (link w g l o y .law p s))
+        move (sym (link w f l o x .law p s tt)) (sym (link w g l o y .law p s tt))
         (over-alike (λ v. keep f l o v x) (λ v. keep g l o v y) (λ v. keep-alike l o v x y c) (read (byPlace w) l p s))

@@ -38,7 +38,7 @@ keep-flat (lacking z t i r) h o x st = keep-flat r h o x _ ∙ add-two o (absent
 module _ (w : Bool) (l : Shape) (o : ℕ) (st : State) (s : List ℕ) (p : ℕ) where
   walk-kept : more p (over (λ x. keep add l o x st) (read (byPlace w) l p (drop p s))) ≡ on (walk w l o st) s p
   unfolding on
-  walk-kept = ap (more p) (sym (link w add l o st .law p (drop p s)))
+  walk-kept = ap (more p) (sym (link w add l o st .law p (drop p s) tt))
 
   more-over : {A B : Type 0} (g : A → B) (r : Res A) → over g (more p r) ≡ more p (over g r)
   more-over g (ok x n) = refl

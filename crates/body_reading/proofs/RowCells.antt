@@ -80,7 +80,7 @@ module _ (l : Shape) (h : Flat l) (s : List ℕ) (p : ℕ) where
 
   as-read : on (rowFrom [] l) s p ≡ more p (over (λ x. keep (λ t cs es. es ++ cs) l 0 x []) (read (byPlace false) l p (drop p s)))
   unfolding on rowFrom
-  as-read = ap (more p) (link false (λ t cs es. es ++ cs) l 0 [] .law p (drop p s))
+  as-read = ap (more p) (link false (λ t cs es. es ++ cs) l 0 [] .law p (drop p s) tt)
 
   pub row-of : (cs : List ℕ) (q : ℕ) → ok cs q ≡ on (rowFrom [] l) s p → Row cs q
   unfolding on

@@ -84,9 +84,9 @@ pub local-rows : {S : Type 0} (w : Bool) (add : ℕ → List ℕ → S → S) (l
 local-rows w add l o st = record {
   law = λ p s y n e.
       let m = link w add l o st in
-      let u = under _ _ _ m p s y n e in
+      let u = under _ _ _ m p s tt y n e in
       let h = local-read _ local-unsigned local-flag l .law p s (u .x) n (u .reads) in
-      record { fits = h .fits; same = λ t. m .law p (take n s ++ t) ∙ ap (over (λ x. keep add l o x st)) (h .same t) ∙ ap (λ z. ok z n) (u .is) };
+      record { fits = h .fits; same = λ t. m .law p (take n s ++ t) tt ∙ ap (over (λ x. keep add l o x st)) (h .same t) ∙ ap (λ z. ok z n) (u .is) };
 }
 
 module _ (m : Message) (v : ℤ) (s : List ℕ) where

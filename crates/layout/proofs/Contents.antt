@@ -1,6 +1,6 @@
 -- What stands in each table: the body's own row in table 0, and in every other the rows of the value, in body order, each as wide as its kind.
 -- So the need that 10 tells is the number of those rows.
-use mathlib.Core.Bool.{Bool, cond, false, true}
+use mathlib.Core.Bool.{Bool, cond, false}
 use mathlib.Core.List.{List, [], _++_, _∷_, append-assoc, append-nil}
 use mathlib.Core.Path.{_∙_, _≡_, ap, refl, subst, sym}
 use Prim.Native.Nat.{_*_, _+_, _/_, _<_, suc, zero, ℕ}
@@ -153,7 +153,7 @@ pub record Holds (q : Bool) (l : Shape) (msg : List ℕ) (n : ℕ) (st : Tables)
 pub tables-hold : (q : Bool) (l : Shape) (N : ℕ) (msg : List ℕ) (st : Tables) (n : ℕ) → 0 < N → Within N l → Free 0 l → Tree l →
     readRows q append l 0 (replicate N []) 0 msg ≡ ok st n → Holds q l msg n st
 tables-hold q l N msg st n h w f sep e =
-    let u = under _ _ _ (link q append l 0 (replicate N [])) 0 msg st n e in
+    let u = under _ _ _ (link q append l 0 (replicate N [])) 0 msg tt st n e in
     let x = u .x in
     let i : st ≡ lay l 0 x (replicate N []) = sym (u .is) ∙ same-tables N l 0 x in
     let k = contents N l 0 x (replicate N []) (length-replicate N []) h w f sep in

@@ -87,7 +87,7 @@ tells-read w l = kept-read telling _ w _ unsigned _ flag (kept-unsigned telling)
 pub tells-rows : (w : Bool) {S : Type 0} (add : ℕ → List ℕ → S → S) (l : Shape) (o : ℕ) (st : S) → Tells (readRows w add l o st)
 tells-rows w add l o st = record {
   law = λ p s e d.
-      let q = sym (link w add l o st .law p s) ∙ d in
+      let q = sym (link w add l o st .law p s tt) ∙ d in
       by-result (read (byPlace w) l p s) (λ x n i. not-ok (sym (rw i at q))) (λ c i. tells-read w l .law p s e (i ∙ same-bad (rw i at q)));
 }
 

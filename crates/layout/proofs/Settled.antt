@@ -240,7 +240,7 @@ pub read-holds : (q : Bool) (l : Shape) (N : ℕ) (msg : List ℕ) (su : Tables)
     readRows q append l 0 (replicate N []) 0 msg ≡ ok su n → told (asIs msg) l 0 su ≡ (ofValue l (meant msg su l), replicate N [])
 unfolding meant
 read-holds q l N msg su n first names eats small e =
-    let u = under _ _ _ (link q append l 0 (replicate N [])) 0 msg su n e in
+    let u = under _ _ _ (link q append l 0 (replicate N [])) 0 msg tt su n e in
     let i : su ≡ lay l 0 (u .x) (replicate N []) = sym (u .is) ∙ same-tables N l 0 (u .x) in
     let s = Parts.shown minus q l msg (u .x) n small eats (u .reads) .inside-it in
     let f = ap (valueOf msg l 0) i ∙ takes msg N _ l 0 (u .x) first names s .law (replicate N []) (length-replicate N []) in

@@ -306,7 +306,7 @@ module _ (q : Bool) (l : Shape) (N : ℕ) (lent : List ℕ) (st : Tables) (msg :
         let x = c .x in
         let w = rows-wide (λ u. rowWidth (kindOf u l)) t l x (kinds-wide l l kinds) in
         let a : rowsOf (rowWidth (kindOf t l)) (getD (d .st) t []) ≡ rowsIn t l x = ap (rowsOf (rowWidth (kindOf t l))) (c .others t apart) ∙ rows-back (rowWidth (kindOf t l)) (rowsIn t l x) wide w in
-        let r : ok (d .st) n ≡ ok (keep append l 0 x (replicate N [])) n = sym (d .reads) ∙ link q append l 0 (replicate N []) .law 0 msg ∙ ap (over (λ x. keep append l 0 x (replicate N []))) (c .reads) in
+        let r : ok (d .st) n ≡ ok (keep append l 0 x (replicate N [])) n = sym (d .reads) ∙ link q append l 0 (replicate N []) .law 0 msg tt ∙ ap (over (λ x. keep append l 0 x (replicate N []))) (c .reads) in
         let i : d .st ≡ keep append l 0 x (replicate N []) = cc in
         let s = Parts.shown minus q l msg x n small eats (c .reads) in
         let g = ap (told (asIs msg) l 0) (i ∙ same-tables N l 0 x) ∙ holds msg N (λ t. t .0 + t .1 ≤ length msg) l 0 x first names (s .inside-it) .law (replicate N []) (length-replicate N []) in

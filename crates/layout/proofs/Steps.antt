@@ -140,9 +140,9 @@ piece-inv t make n p s x m e =
     let r = raw-inv n p s (a .x) (a .n) (a .first) in
     by-test (t (a .x))
     (λ d.
-        let g : ok (make p (a .x)) 0 ≡ ok x (a .k) = rw d at (a .second) in
-        let z : 0 ≡ a .k = cc in
-        record { b = a .x; is-raw = record { fits = r .fits; is = r .is; used = omega (arith, a .sum, r .used) }; passes = d; is = cc })
+    let g : ok (make p (a .x)) 0 ≡ ok x (a .k) = rw d at (a .second) in
+    let z : 0 ≡ a .k = cc in
+    record { b = a .x; is-raw = record { fits = r .fits; is = r .is; used = omega (arith, a .sum, r .used) }; passes = d; is = cc })
     (λ d. not-ok (rw d at (a .second)))
 
 -- a primitive refuses at its own start, and asks for nothing
