@@ -9,22 +9,23 @@ use native.Mathlib.Omega.{arith}
 use lib.Dec.{eqb, ltb}
 use lib.ListN.{drop, getD, length, replicate, take}
 use lib.Seq.{drop-at}
-use borrow.Author.Tests.{ne-eqb}
+use borrow.Author.Tests.{ne-eqb, not-true}
 use Rattle.layout.specs.Reading.{ok}
 use Rattle.layout.specs.Primitives.{Size, keeps, minus}
 use Rattle.layout.specs.Rows.{Basic, Shape, absent, array, blob, boolean, end, field, lacking, level, natural, number, optional, text}
-use Rattle.layout.specs.Tables.{Tables, addsUp, all, append, asked, chunks, count, from, good, goodRow, kindOf, readRows, rowWidth, rowsAt, rowsOf, sum, width}
+use Rattle.layout.specs.Tables.{Tables, absentCells, addsUp, all, append, asked, chunks, count, from, good, goodRow, kindOf, readRows, rowWidth, rowsAt, rowsOf, sum, width}
 use Rattle.layout.specs.Answers.{Message, meant, most, shape}
 use Rattle.layout.specs.Settled.{Returned, Shown, gone, num, part, settledCells, settledCount, settledRow, settledSpan, shownCells, shownRow, shownSpan}
 use Rattle.layout.proofs.Chunks.{rows-many}
 use Rattle.layout.proofs.Contents.{Holds, free-rows, joined, tables-hold}
 use Rattle.layout.proofs.Every.{All}
 use Rattle.layout.proofs.Good.{Kinds, NoNull, Writable, read-good}
-use Rattle.layout.proofs.Proper.{Owes, all-from, avoids, avoids-free, both, is-not, owed, proper, width-same, widthAt}
+use Rattle.layout.proofs.Proper.{Owes, all-from, avoids, avoids-free, both, owed, proper, width-same, widthAt}
 use Rattle.layout.proofs.SettledRows.{own-settled, rows-settled, tables-read}
 use Rattle.layout.proofs.Sums.{sum-eq, sum-map, sum-same, sum-zero}
 use Rattle.layout.proofs.Tests.{by-test, of-eq, of-lt}
 use Rattle.layout.proofs.Trip.{Laid}
+use Rattle.layout.proofs.Settled.{shown-absent}
 
 -- ---- what a row asks of a table, told from what is shown of the row
 
@@ -63,14 +64,7 @@ settled-pieces b (blob z) cs = back-pieces b (keeps z) cs
 settled-pieces b (optional d k) cs = ap suc (settled-pieces b k (cond (eqb (getD cs 0 0) 0) d (drop 1 cs)))
 
 gone-pieces : (k : Basic) → length (gone k) ≡ pieces k
-unfolding gone shownCells
-gone-pieces (number w) = refl
-gone-pieces boolean = refl
-gone-pieces level = refl
-gone-pieces natural = refl
-gone-pieces (text z) = refl
-gone-pieces (blob z) = refl
-gone-pieces (optional d k) = refl
+gone-pieces k = ap length (sym (shown-absent [] k)) ∙ shown-pieces [] k (absentCells k)
 
 abbrev numOf : Shown → ℕ
 numOf (num n) = n
@@ -101,7 +95,7 @@ mute t (array z u i r) = not (eqb t u) && mute t r
 mute t (lacking z u i r) = not (eqb t u) && mute t r
 
 not-this : (t u : ℕ) (c a : ℕ) → not (eqb t u) ≡ true → cond (eqb t u) c 0 + a ≡ a
-not-this t u c a h = ap (λ (b : Bool). cond b c 0 + a) (is-not (eqb t u) h) ∙ zero-add a
+not-this t u c a h = ap (λ (b : Bool). cond b c 0 + a) (not-true (eqb t u) h) ∙ zero-add a
 
 asked-shown : (b : List ℕ) (t : ℕ) (l : Shape) (cs : List ℕ) → unlacked t l ≡ true → askedOf t l (shownRow b l cs) ≡ asked t l cs
 unfolding askedOf shownRow asked unlacked
@@ -168,10 +162,6 @@ adds size n l st h t a b =
     let y = both (all (λ t. all (goodRow size (kindOf t l)) (rowsAt l st t)) (from 1 n)) (all (addsUp size n l st) (from 1 n)) (x .1) in
     of-eq _ _ (all-from (addsUp size n l st) 1 n t (y .1) a (omega arith))
 
-all-chunks : (w : ℕ) (cs : List ℕ) → chunks (length (rowsOf w cs)) w cs ≡ rowsOf w cs
-unfolding rowsOf
-all-chunks w cs = ap (λ (n : ℕ). chunks n w cs) (rows-many w cs)
-
 -- ---- the tables su, read from bs, and the tables st that were lent with `lent`: as many rows as are read are the first that were lent
 
 module _ (F : ℕ → Bool) (n : ℕ) (l : Shape) (lent bs : List ℕ) (st su : Tables) (test : followed F n l ≡ true) (own : shownRow bs l (getD su 0 []) ≡ settledRow lent l (getD st 0 []))
@@ -211,7 +201,7 @@ module _ (F : ℕ → Bool) (n : ℕ) (l : Shape) (lent bs : List ℕ) (st su : 
   from-below zero t h a b f = absurd (omega arith)
   from-below (suc k) t h a b f =
       let e = as-many t a b f (λ u i j g c. from-below k u (omega arith) i j c) in
-      let z : chunks (length (rowsAt l st t)) (rowWidth (kindOf t l)) (getD st t []) ≡ rowsAt l st t = unfold rowsAt in all-chunks (rowWidth (kindOf t l)) (getD st t []) in
+      let z : chunks (length (rowsAt l st t)) (rowWidth (kindOf t l)) (getD st t []) ≡ rowsAt l st t = unfold rowsAt rowsOf in ap (λ (n : ℕ). chunks n (rowWidth (kindOf t l)) (getD st t [])) (rows-many (rowWidth (kindOf t l)) (getD st t [])) in
       rows t a b ∙ ap (map (settledRow lent (kindOf t l))) (ap (λ (m : ℕ). chunks m (rowWidth (kindOf t l)) (getD st t [])) e ∙ z)
 
   pub every-row : (t : ℕ) → 1 ≤ t → t ≤ n → F t ≡ true → Same t

@@ -4,7 +4,7 @@ use mathlib.Core.List.{List, [], _++_, _∷_, append-assoc, append-nil}
 use mathlib.Core.Option.{none, some}
 use mathlib.Core.Path.{_∙_, _≡_, ap, refl, subst, sym}
 use Prim.Native.Nat.{_%_, _*_, _+_, _-_, _/_, _<_, _^_, _≤_, suc, zero, ℕ}
-use native.Mathlib.Nat.{add-mul, div-add-mod', mul-assoc, mul-comm, pow-suc, suc-ne-zero}
+use native.Mathlib.Nat.{div-add-mod', pow-suc, suc-ne-zero}
 use native.Mathlib.Omega.{arith}
 use lib.Dec.{eqb, lit<, ltb}
 use lib.ListN.{length, length-append}
@@ -14,7 +14,7 @@ use mathlib.Core.Logic.{_≢_}
 use lib.IntN.{negsuc, pos, ℤ}
 use Rattle.layout.specs.Reading.{Reader, fail, give, here, many, ok, pair, pick, placed, primitive, raw, then}
 use Rattle.layout.specs.Utf8.{utf8}
-use Rattle.layout.specs.Primitives.{Maybe, Null, Size, Width, be, bits, bytes, cell, checked, compact, fixed, flag, flagBytes, groups, holds, int, integer, integerBytes, keeps, lengthBytes, lengthOf, limit, nullBytes, plain, shortest, signed, size, sized, sizedBytes, unsigned, unsignedBytes, unzigzag, varint, varlong, w16, w32, w64, w8, zigzag, zigzagBytes}
+use Rattle.layout.specs.Primitives.{Maybe, Size, Width, be, bits, bytes, cell, checked, compact, fixed, flag, flagBytes, groups, holds, int, integer, integerBytes, keeps, lengthBytes, lengthOf, limit, nullBytes, plain, shortest, signed, size, sized, sizedBytes, unsigned, unsignedBytes, unzigzag, varint, varlong, w16, w32, w64, w8, zigzag, zigzagBytes}
 use Rattle.layout.specs.Rows.{Basic, BasicValue, Shape, Value, absent, array, blob, boolean, end, field, lacking, level, natural, number, optional, text}
 use Rattle.layout.specs.Read.{byBytes, read, readBasic, readBlob, readText}
 use Rattle.layout.specs.Answers.{most}
@@ -102,10 +102,7 @@ group-fits n = omega arith
 digits : (a n m : ℕ) → (a + (128 + n % 128) % 128 * m) + n / 128 * (m * 128) ≡ a + n * m
 digits a n m =
     let e : (128 + n % 128) % 128 ≡ n % 128 = omega arith in
-    let f : n * m ≡ n / 128 * (m * 128) + n % 128 * m =
-    ap (λ (x : ℕ). x * m) (sym (div-add-mod' n 128)) ∙ add-mul (n / 128 * 128) (n % 128) m
-    ∙ ap (λ (x : ℕ). x + n % 128 * m) (mul-assoc (n / 128) 128 m ∙ ap (λ (x : ℕ). n / 128 * x) (mul-comm 128 m)) in
-    rw e (omega (arith, f))
+    rw e (omega (arith, ap (λ (x : ℕ). x * m) (div-add-mod' n 128)))
 
 back-shortest : (k m a n : ℕ) → n < 2 * 128 ^ k → Back (groups k m a) (shortest k n) (a + n * m)
 unfolding groups shortest
@@ -137,14 +134,11 @@ back-pair r q v w z a b = back-then r _ v w (z .0) z a (back-map q _ w (z .1) b)
 back-less : {A : Type 0} (r : ℕ → Reader A) (n : ℕ) (w : List ℕ) (x : A) → Back (r n) w x → Back (r (n + 1 - 1)) w x
 back-less r n w x h = let e : n ≡ n + 1 - 1 = omega arith in subst (λ (m : ℕ). Back (r m) w x) e h
 
--- a signed number, as a length
-back-fixed : (w : Width) (m : Null) (n : ℕ) → n < 2 ^ (bits w - 1) → Back (lengthOf unsigned (fixed w m)) (bytes (size w) n) (n + 1)
-unfolding lengthOf
-back-fixed w m n h = back-last _ _ _ n _ (back-int (size w) n (let p = powers w in omega (arith, p .half, p .power))) (back-true _ _ _ _ _ (lt-true _ _ h) (back-give (n + 1)))
-
 back-length : (z : Size) (n : ℕ) → n < limit z → Back (lengthOf unsigned z) (lengthBytes z n) (n + 1)
 unfolding lengthBytes
-back-length (fixed w m) n h = back-fixed w m n h
+back-length (fixed w m) n h =
+    unfold lengthOf in
+    (back-last _ _ _ n _ (back-int (size w) n (let p = powers w in omega (arith, p .half, p .power))) (back-true _ _ _ _ _ (lt-true _ _ h) (back-give (n + 1))))
 back-length (compact m) n h = unfold lengthOf in back-unsigned (n + 1) (omega arith)
 back-length plain n h = unfold lengthOf in back-map unsigned (λ n. n + 1) _ n (back-unsigned n h)
 

@@ -187,20 +187,14 @@ pub record Made (m : Message) (v : ℤ) (lent : List ℕ) (st : Tables) (bs : Li
   pub short : length bs ≤ most
 
 -- bytes that are offered have no fault and are not too many
-pub record Offered (f : ℕ) (b bs : List ℕ) (n : ℕ) : Type 0 where
-  pub clean : f ≡ 0
-  pub bytes-are : bs ≡ b
-  pub size-is : n ≡ length bs
-  pub short : length bs ≤ most
-
-pub offered-inv : (f : ℕ) (b bs : List ℕ) (n : ℕ) → offered f b ≡ ok bs n → Offered f b bs n
+offered-inv : (f : ℕ) (b bs : List ℕ) (n : ℕ) → offered f b ≡ ok bs n → (f ≡ 0) × (bs ≡ b) × (n ≡ length bs) × (length bs ≤ most)
 offered-inv (suc f) b bs n e = not-ok e
 offered-inv zero b bs n e =
     let a = passed (leb (length b) most) (ok b (length b)) _ bs n e in
     let c = a .1 in
     let z : b ≡ bs = cc in
     let w : length b ≡ n = cc in
-    record { clean = refl; bytes-are = sym z; size-is = sym w ∙ ap length z; short = rw z at (of-le (length b) most (a .0)) }
+    (refl, sym z, sym w ∙ ap length z, rw z at (of-le (length b) most (a .0)))
 
 pub made-inv : (m : Message) (v : ℤ) (lent : List ℕ) (st : Tables) (bs : List ℕ) (n : ℕ) → made m v lent st ≡ ok bs n → Made m v lent st bs n
 unfolding made
@@ -209,7 +203,7 @@ made-inv m (pos v) lent st bs n e =
     let a = passed _ _ _ bs n e in
     let b = passed _ _ _ bs n (a .1) in
     let o = offered-inv _ _ bs n (b .1) in
-    record { version = v; is = refl; known = of-le _ _ (a .0); good-tables = b .0; clean = o .clean; bytes-are = o .bytes-are; size-is = o .size-is; short = o .short }
+    record { version = v; is = refl; known = of-le _ _ (a .0); good-tables = b .0; clean = o .0; bytes-are = o .1; size-is = o .2; short = o .3 }
 
 pub record Wrote (m : Message) (v : ℤ) (lent : List ℕ) (st : Tables) (out : List ℕ) (n : ℕ) (after : List ℕ) : Type 0 where
   pub bs : List ℕ

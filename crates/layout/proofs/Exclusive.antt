@@ -3,7 +3,7 @@ use mathlib.Core.Bool.{false, true}
 use mathlib.Core.List.{List, [], _∷_}
 use mathlib.Core.Path.{_∙_, _≡_, ap, refl, subst, sym}
 use Prim.Native.Nat.{_*_, _+_, _-_, _<_, _^_, _≤_, suc, zero, ℕ}
-use native.Mathlib.Nat.{add-zero, suc-mul}
+use native.Mathlib.Nat.{suc-mul}
 use native.Mathlib.Omega.{arith}
 use lib.Dec.{eqb, ltb}
 use lib.ListN.{drop, length, take}
@@ -12,10 +12,11 @@ use Rattle.layout.specs.Primitives.{Width, be, cell, checked, compact, e
 use Rattle.layout.specs.Rows.{Basic, Shape, Value, absent, array, at, blob, end, field, lacking, natural, number, optional, standing, stands, tagRows}
 use Rattle.layout.specs.Read.{byBytes, read, readBasic}
 use Rattle.layout.specs.Answers.{most, shape}
-use Rattle.layout.proofs.Tests.{by-test, nonzero}
+use Rattle.layout.proofs.Tests.{by-test, of-ne}
 use Rattle.layout.proofs.Local.{not-ok}
 use Rattle.layout.proofs.Steps.{Number, checked-inv, checked-some, int-inv, int-ok, many-none, many-uncons, pair-inv, split}
 use Rattle.layout.specs.Messages.ApiVersions as Api
+use mathlib.Core.Logic.{_≢_}
 
 -- ---- the layouts of the four versions
 
@@ -62,7 +63,7 @@ sized-inv : {A : Type 0} (e : ℕ) (len : Reader ℕ) (r : ℕ → Reader A) (p 
 unfolding sized
 sized-inv {A} e len r p s x m h =
     let d = split (checked false e len) _ p s x m h in
-    let z = nonzero (d .x) (checked-some e len p s (d .x) (d .n) (d .first)) in
+    let z : d .x ≢ 0 = of-ne _ _ (checked-some e len p s (d .x) (d .n) (d .first)) in
     let q : d .x - 1 + 1 ≡ d .x = omega arith in
     record { n = d .x - 1; a = d .n; k = d .k; count-is = rw q (checked-inv false e len p s (d .x) (d .n) (d .first)); items = d .second; total = d .sum }
 
@@ -85,16 +86,6 @@ always-give : {A : Type 0} (x : A) → Always (give x) 0
 unfolding give
 always-give x = record { law = λ p s y n e. cc }
 
-always-int : (k : ℕ) → Always (int k) k
-always-int k = record { law = λ p s x n e. int-inv k p s x n e .used }
-
-always-then : {A B : Type 0} (r : Reader A) (f : A → Reader B) (a b : ℕ) → Always r a → ((x : A) → Always (f x) b) → Always (then r f) (a + b)
-always-then r f a b h g = record {
-  law = λ p s y m e.
-      let d = split r f p s y m e in
-      omega (arith, d .sum, h .law p s (d .x) (d .n) (d .first), g (d .x) .law _ _ y (d .k) (d .second));
-}
-
 always-pair : {A B : Type 0} (r : Reader A) (q : Reader B) (a b : ℕ) → Always r a → Always q b → Always (pair r q) (a + b)
 always-pair r q a b h g = record {
   law = λ p s z m e.
@@ -109,8 +100,14 @@ always-many r k h (suc n) p s xs m e =
     rw suc-mul (omega (arith, c .sum, h .law p s (c .x) (c .n) (c .first), always-many r k h n _ _ (c .xs) (c .m) (c .rest)))
 
 always-cell : (w : Width) → Always (cell w) (size w)
-unfolding cell
-always-cell w = record { law = λ p s x n e. always-then (int (size w)) _ (size w) 0 (always-int (size w)) (λ y. always-give _) .law p s x n e ∙ add-zero (size w) }
+unfolding cell give
+always-cell w = record {
+  law = λ p s x n e.
+      let d = split (int (size w)) _ p s x n e in
+      let c = d .second in
+      let z : 0 ≡ d .k = cc in
+      omega (arith, d .sum, int-inv (size w) p s (d .x) (d .n) (d .first) .used);
+}
 
 -- ---- a reader of known length in front: the place of the rest is a numeral
 

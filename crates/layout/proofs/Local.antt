@@ -34,10 +34,6 @@ unfolding pick
 local-pick true r q hr hq = hr
 local-pick false r q hr hq = hq
 
-pub local-here : {A : Type 0} (r : ℕ → Reader A) → ((p : ℕ) → Local (r p)) → Local (here r)
-unfolding here
-local-here r h = record { law = λ p s x n e. let k = h p .law p s x n e in record { fits = k .fits; same = k .same } }
-
 pub local-primitive : {A : Type 0} (r : Reader A) → Local r → Local (primitive r)
 unfolding primitive
 local-primitive r h = record { law = λ p s x n e. let k = h .law p s x n (primitive-inv r p s x n e) in record { fits = k .fits; same = λ t. ap (placed p) (k .same t) } }
@@ -70,12 +66,13 @@ local-then r f hr hf = record {
 
 -- every step is local, and so is what is made of steps
 pub locals : Kept (λ A r q. Local r)
+unfolding here
 locals = record {
   on-give = local-give;
   on-fail = λ e h g. local-fail e;
   on-raw = local-raw;
   on-pick = λ b r r′ q q′ h g. local-pick b r q h g;
-  on-here = λ r r′ h. local-here r h;
+  on-here = λ r r′ h. record { law = λ p s x n e. let k = h p .law p s x n e in record { fits = k .fits; same = k .same } };
   on-primitive = λ r r′ h. local-primitive r h;
   on-then = λ r r′ f f′ h g. local-then r f h g;
 }

@@ -3,7 +3,7 @@ use mathlib.Core.Bool.{Bool, false, true}
 use mathlib.Core.List.{List}
 use mathlib.Core.Path.{_∙_, _≡_, ap, refl, sym}
 use Prim.Native.Nat.{_%_, _*_, _+_, _-_, _<_, _^_, _≤_, suc, zero, ℕ}
-use native.Mathlib.Nat.{add-mul, mul-assoc, mul-comm, pow-suc}
+use native.Mathlib.Nat.{pow-suc}
 use native.Mathlib.Omega.{arith}
 use lib.Dec.{ltb}
 use lib.ListN.{length, length-drop}
@@ -35,12 +35,7 @@ pow-pos zero = omega arith
 pow-pos (suc k) = omega (arith, pow-suc 128 k, pow-pos k)
 
 group-more : (k m a b v x j n : ℕ) → x ≡ a + b % 128 * m + v * (m * 128) → v < 2 * 128 ^ k → 1 ≤ j → n ≡ j → Group (suc k) m a x n
-group-more k m a b v x j n e h i o = record {
-  v = b % 128 + v * 128;
-  is = (let f : (b % 128 + v * 128) * m ≡ b % 128 * m + v * (m * 128) = add-mul (b % 128) (v * 128) m ∙ ap (λ (z : ℕ). b % 128 * m + z) (mul-assoc v 128 m ∙ ap (λ (z : ℕ). v * z) (mul-comm 128 m)) in omega arith);
-  small = omega (arith, pow-suc 128 k);
-  some-byte = omega arith;
-}
+group-more k m a b v x j n e h i o = record { v = b % 128 + v * 128; is = omega arith; small = omega (arith, pow-suc 128 k); some-byte = omega arith }
 
 groups-inv : (k m a p : ℕ) (s : List ℕ) (x n : ℕ) → groups k m a p s ≡ ok x n → Group k m a x n
 unfolding groups pick give fail

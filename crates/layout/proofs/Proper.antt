@@ -18,14 +18,11 @@ use Rattle.layout.proofs.Contents.{Free, Tree, Wide}
 use Rattle.layout.proofs.Every.{Within}
 use Rattle.layout.proofs.Parts.{Eating, Eats}
 use Rattle.layout.proofs.Tests.{by-test, of-eq, of-lt, of-ne}
+use borrow.Author.Tests.{not-true}
 
 pub both : (a b : Bool) → (a && b) ≡ true → (a ≡ true) × (b ≡ true)
 both true b h = (refl, h)
 both false b h = let z : _≡_ {A = ℕ} 0 1 = cc in absurd (omega arith)
-
-pub is-not : (b : Bool) → not b ≡ true → b ≡ false
-is-not true h = sym h
-is-not false h = refl
 
 -- ---- the tests
 
@@ -78,7 +75,7 @@ avoids-free o (absent k r) h = avoids-free o r h
 avoids-free o (array z t i r) h =
     let a = both _ _ h in
     let b = both _ _ (a .1) in
-    (is-not _ (a .0), avoids-free o i (b .0), avoids-free o r (b .1))
+    (not-true _ (a .0), avoids-free o i (b .0), avoids-free o r (b .1))
 avoids-free o (lacking z t i r) h = avoids-free o r h
 
 eats-it : (l : Shape) → eats l ≡ true → Eats l
@@ -105,7 +102,7 @@ owes n L (array z t i r) h =
     let q = owes n L r (f .1) in
     record {
       names = (of-lt _ _ (a .0), p .names, q .names);
-      free = (is-not _ (b .0), p .free, q .free);
+      free = (not-true _ (b .0), p .free, q .free);
       tree = (avoids-free t i (c .0), p .tree, q .tree);
       eating = (eats-it i (d .0), p .eating, q .eating);
       wide = (of-eq _ _ (e .0), p .wide, q .wide);

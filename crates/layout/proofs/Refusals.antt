@@ -34,11 +34,6 @@ told : (p : ℕ) (s : List ℕ) (n : ℕ) → 3 ≤ n → n ≤ 8 → (e : Refus
 told p s n h g e x =
     subst (Told p s) x (record { least = h; greatest = g; behind = omega arith; before-end = omega arith; no-need = refl })
 
-tells-pick : {A : Type 0} (b : Bool) (r q : Reader A) → Tells r → Tells q → Tells (pick b r q)
-unfolding pick
-tells-pick true r q hr hq = hr
-tells-pick false r q hr hq = hq
-
 -- a refusal is the same whatever would have been read
 same-bad : {A B : Type 0} {c e : Refusal} → _≡_ {A = Res A} (bad c) (bad e) → _≡_ {A = Res B} (bad c) (bad e)
 same-bad {A} {B} {c} {e} h = let x : c ≡ e = cc in ap bad x
@@ -65,7 +60,7 @@ tells-then r f l hr hf = record {
 
 -- readers that are local and tell so: every step keeps it
 telling : Kept (λ A r q. Local r × Tells r)
-unfolding give fail raw here
+unfolding give fail raw here pick
 telling = record {
   on-give = λ x. (locals .on-give x, record { law = λ p s e d. not-ok (sym d) });
   on-fail = λ n h g. (locals .on-fail n h g, record { law = λ p s e d. told p s n h g e (cc) });
@@ -75,7 +70,7 @@ telling = record {
       law = λ p s e d. by-test (leb n (length s)) (λ t. not-ok (sym (rw t at d))) (λ t. let g : bad (because 3 p) ≡ bad e = rw t at d in told p s 3 (omega arith) (omega arith) e (cc));
     },
   );
-  on-pick = λ b r r′ q q′ h g. (locals .on-pick b r r q q (h .0) (g .0), tells-pick b r q (h .1) (g .1));
+  on-pick = λ b r r′ q q′ h g. (locals .on-pick b r r q q (h .0) (g .0), elim b as (λ b. Tells (pick b r q)) [ true ↦ h .1 | false ↦ g .1 ]);
   on-here = λ r r′ h. (locals .on-here r r (λ p. h p .0), record { law = λ p s e d. h p .1 .law p s e d });
   on-primitive = λ r r′ h. (locals .on-primitive r r (h .0), tells-primitive r (h .1));
   on-then = λ r r′ f f′ h g. (locals .on-then r r f f (h .0) (λ x. g x .0), tells-then r f (h .0) (h .1) (λ x. g x .1));

@@ -2,11 +2,11 @@
 -- Below that, rows of these messages in numbers: what the version lacks is absent, what was unset has its default.
 use mathlib.Core.Bool.{Bool, cond, true}
 use mathlib.Core.List.{List, [], _∷_}
-use mathlib.Core.Path.{_≡_, ap, refl, subst, sym}
+use mathlib.Core.Path.{_≡_, refl, subst}
 use Prim.Native.Nat.{_≤_, suc, zero, ℕ}
 use native.Mathlib.Omega.{arith}
 use lib.Dec.{eqb, leb, ltb}
-use lib.IntN.{ℤ, negsuc, pos}
+use lib.IntN.{pos}
 use lib.ListN.{length, replicate, take}
 use Rattle.layout.specs.Reading.{ok}
 use Rattle.layout.specs.Primitives.{minus}
@@ -64,10 +64,6 @@ fetch-request-follows (suc (suc (suc (suc (suc v))))) h = absurd (omega arith)
 
 -- ---- what was written is read again, prefix (false) and whole (true), with every byte used
 
-abbrev natOf : ℤ → ℕ
-natOf (pos n) = n
-natOf (negsuc n) = 0
-
 pub comes-back : (m : Message) → proper m ≡ true → (F : ℕ → ℕ → Bool) → ((v : ℕ) → v ≤ m .last → Follows m (F v) v) → (v : ℕ) (lent : List ℕ) (st : Tables) (out r : List ℕ) (n : ℕ) (after : List ℕ) →
     length st ≡ suc (m .tables) → writeAnswer m (pos v) lent st out ≡ (accepted r n, after) → (w : Bool) → Back m F v lent st (take n after) w
 comes-back m h F o v lent st out r n after as-many e w =
@@ -76,7 +72,8 @@ comes-back m h F o v lent st out r n after as-many e w =
     let i = write-inv m (pos v) lent st out r n after e in
     let g = made-inv m (pos v) lent st (i .bs) n (i .is-made) in
     let s = seen-inv w m (pos v) bs (c .su w) (length bs) (c .is-seen w) in
-    let x : s .version ≡ v = sym (ap natOf (s .is)) in
+    let same = s .is in
+    let x : s .version ≡ v = cc in
     let known : v ≤ m .last = subst (λ (k : ℕ). k ≤ m .last) x (s .known) in
     let reads : readRows w append (shape m v) 0 (replicate (suc (m .tables)) []) 0 bs ≡ ok (c .su w) (length bs) =
     subst (λ (k : ℕ). readRows w append (shape m k) 0 (replicate (suc (m .tables)) []) 0 bs ≡ ok (c .su w) (length bs)) x (s .reads) in

@@ -44,10 +44,6 @@ join-append o cs (x ∷ xs) [] h = absurd (suc-ne-zero (length xs) h)
 join-append zero cs (x ∷ xs) (y ∷ ys) h = ap (λ (z : List ℕ). z ∷ join xs ys) (append-assoc x cs y)
 join-append (suc o) cs (x ∷ xs) (y ∷ ys) h = ap (λ (z : Tables). (x ++ y) ∷ z) (join-append o cs xs ys (suc-inj h))
 
-length-append-to : (o : ℕ) (cs : List ℕ) (st : Tables) → length (append o cs st) ≡ length st
-unfolding append
-length-append-to o cs st = length-set st o (getD st o [] ++ cs)
-
 -- what is added behind st by f is what is put before su by g
 pub record Moves (N : ℕ) (f g : Tables → Tables) : Type 0 where
   pub law : (st su : Tables) → length st ≡ N → length su ≡ N → join (f st) su ≡ join st (g su)
@@ -58,7 +54,8 @@ moves-none : (N : ℕ) → Moves N (λ st. st) (λ st. st)
 moves-none N = record { law = λ st su h k. refl; left = λ st h. h; right = λ su h. h }
 
 moves-append : (N o : ℕ) (cs : List ℕ) → Moves N (λ st. append o cs st) (λ su. push o cs su)
-moves-append N o cs = record { law = λ st su h k. join-append o cs st su (h ∙ sym k); left = λ st h. length-append-to o cs st ∙ h; right = λ su h. length-push o cs su ∙ h }
+unfolding append
+moves-append N o cs = record { law = λ st su h k. join-append o cs st su (h ∙ sym k); left = λ st h. length-set st o (getD st o [] ++ cs) ∙ h; right = λ su h. length-push o cs su ∙ h }
 
 -- first f, then f′: before g′'s comes g's
 moves-then : (N : ℕ) (f g f′ g′ : Tables → Tables) → Moves N f g → Moves N f′ g′ → Moves N (λ st. f′ (f st)) (λ su. g (g′ su))

@@ -109,10 +109,6 @@ canon-int k = record {
 canon-weak : {A : Type 0} (r : Reader A) (w : A → List ℕ) (Q P : A → Type 0) → Canon r w Q → ((x : A) → Q x → P x) → Canon r w P
 canon-weak r w Q P c f = record { law = λ p s x n b h. let a = c .law p s x n b h in record { same = a .same; fact = f x (a .fact) } }
 
-canon-fail : {A : Type 0} (e : ℕ) (w : A → List ℕ) (Q : A → Type 0) → Canon (fail e) w Q
-unfolding fail
-canon-fail e w Q = record { law = λ p s x n b h. not-ok h }
-
 canon-pick : {A : Type 0} (b : Bool) (r q : Reader A) (w : A → List ℕ) (Q : A → Type 0) → (b ≡ true → Canon r w Q) → (b ≡ false → Canon q w Q) → Canon (pick b r q) w Q
 unfolding pick
 canon-pick true r q w Q f g = f refl
@@ -147,20 +143,16 @@ len-one : (z : Size) (n : ℕ) → lenBytes z (n + 1) ≡ lengthBytes z n
 unfolding lenBytes
 len-one z n = ap (lenBytes z) (add-one n)
 
-len-null : (z : Size) → lenBytes z 0 ≡ nullBytes z
-unfolding lenBytes
-len-null z = refl
-
 canon-fixed : (w : Width) (m : Null) (v : Reader ℕ) → Canon (lengthOf v (fixed w m)) (lenBytes (fixed w m)) Any
-unfolding lengthOf lengthBytes nullBytes
+unfolding lengthOf lengthBytes nullBytes lenBytes fail
 canon-fixed w m v =
     let f = lenBytes (fixed w m) in
     canon-then (int (size w)) _ (bytes (size w)) (λ n. n < 256 ^ size w) (λ x n. []) f (λ x n. f n ≡ bytes (size w) x) Any (canon-int (size w))
     (λ x u. canon-pick _ _ _ _ _
     (λ e. canon-weak _ _ (λ n. n ≡ x + 1) _ (canon-give (x + 1) (λ n. []) refl) (λ n d. ap f d ∙ len-one (fixed w m) x))
     (λ e. canon-pick _ _ _ _ _
-    (λ d. canon-weak _ _ (λ n. n ≡ 0) _ (canon-give 0 (λ n. []) refl) (λ n g. ap f g ∙ len-null (fixed w m) ∙ ap (bytes (size w)) (sym (eqb→eq x (2 ^ bits w - 1) (subst T (sym d) tt)))))
-    (λ d. canon-fail _ _ _)))
+    (λ d. canon-weak _ _ (λ n. n ≡ 0) _ (canon-give 0 (λ n. []) refl) (λ n g. ap f g ∙ ap (bytes (size w)) (sym (eqb→eq x (2 ^ bits w - 1) (subst T (sym d) tt)))))
+    (λ d. record { law = λ p s n k b h. not-ok h })))
     (λ x n u e. (e ∙ sym (append-nil (bytes (size w) x)), tt))
 
 canon-length : (v : Reader ℕ) → Canon v unsignedBytes Any → (z : Size) → Canon (lengthOf v z) (lenBytes z) Any
@@ -265,18 +257,13 @@ refines-then r q f g h k = record {
       ∙ ap (more (a .n)) (k (a .x) .law (p + a .n) (drop (a .n) s) y (a .k) (a .second)) ∙ ap (λ (z : ℕ). ok y z) (sym (a .sum));
 }
 
-refines-pick : {A : Type 0} (b : Bool) (r q r′ q′ : Reader A) → Refines r r′ → Refines q q′ → Refines (pick b r q) (pick b r′ q′)
-unfolding pick
-refines-pick true r q r′ q′ h k = h
-refines-pick false r q r′ q′ h k = k
-
 refining : Kept (λ A r q. Refines r q)
-unfolding here primitive
+unfolding here primitive pick
 refining = record {
   on-give = λ x. refines-same _;
   on-fail = λ e h g. refines-same _;
   on-raw = λ n. refines-same _;
-  on-pick = λ b r r′ q q′ h k. refines-pick b r q r′ q′ h k;
+  on-pick = λ b r r′ q q′ h k. elim b as (λ b. Refines (pick b r q) (pick b r′ q′)) [ true ↦ h | false ↦ k ];
   on-here = λ r r′ h. record { law = λ p s x n e. h p .law p s x n e };
   on-primitive = λ r r′ h. record { law = λ p s x n e. ap (placed p) (h .law p s x n (primitive-inv r p s x n e)) };
   on-then = λ r r′ f f′ h k. refines-then r r′ f f′ h k;

@@ -240,22 +240,16 @@ octets-through a b (more c x s m l e o) =
     let f : first characters (x ++ (s ++ b)) ≡ length x = first-is c m (x ++ (s ++ b)) (begins-more c x (s ++ b) e) ∙ sym l in
     rw (append-assoc, front-step (x ++ (s ++ b)) (length x) f, drop-append-seam x (s ++ b), octets-through s b o, length-append) (omega arith)
 
-utf8-is : (s : List ℕ) → wellFormed s ≡ length s → utf8 s ≡ true
-unfolding utf8
-utf8-is s e = eq-eqb (wellFormed s) (length s) e
-
-utf8-whole : (s : List ℕ) → utf8 s ≡ true → wellFormed s ≡ length s
-unfolding utf8
-utf8-whole s e = of-eq (wellFormed s) (length s) e
-
 pub octets-utf8 : (s : List ℕ) → Octets s → utf8 s ≡ true
+unfolding utf8
 octets-utf8 s o =
     let d = ap wellFormed (sym (append-nil s)) ∙ octets-through s [] o in
     let f = parts [] .fits in
-    utf8-is s (omega arith)
+    eq-eqb (wellFormed s) (length s) (omega arith)
 
 pub utf8-octets : (s : List ℕ) → utf8 s ≡ true → Octets s
-utf8-octets s e = subst Octets (ap (λ (n : ℕ). take n s) (utf8-whole s e) ∙ take-length s) (parts s .front)
+unfolding utf8
+utf8-octets s e = subst Octets (ap (λ (n : ℕ). take n s) (of-eq (wellFormed s) (length s) e) ∙ take-length s) (parts s .front)
 
 -- text in front of anything is passed
 pub front-through : (a b : List ℕ) → utf8 a ≡ true → wellFormed (a ++ b) ≡ length a + wellFormed b
