@@ -94,14 +94,10 @@ module _ (b : List ℕ) (N : ℕ) (P : Span → Type 0) where
   span-is true (some x) = refl
   span-is false x = refl
 
-  flag-is : (x : Bool) → ltb 0 (cond x 1 0) ≡ x
-  flag-is true = refl
-  flag-is false = refl
-
   basic-is : (k : Basic) (x : BasicValue Span k) → basicOf b k (cells k x) ≡ mapBasic (slice b) k x
   unfolding basicOf cells chosen
   basic-is (number w) x = refl
-  basic-is boolean x = flag-is x
+  basic-is boolean x = elim x as (λ x. ltb 0 (cond x 1 0) ≡ x) [ true ↦ refl | false ↦ refl ]
   basic-is level x = refl
   basic-is natural x = refl
   basic-is (text z) x = span-is (keeps z) x

@@ -1,5 +1,5 @@
 -- What a refused read tells: a number from 1 to 9, a place in the message, and no need. For every shape and message; so 10 is given for room alone.
-use mathlib.Core.Bool.{Bool, cond, false, true}
+use mathlib.Core.Bool.{Bool, false, true}
 use mathlib.Core.List.{List, []}
 use mathlib.Core.Path.{_∙_, _≡_, ap, refl, subst, sym}
 use Prim.Native.Nat.{_+_, _≤_, suc, ℕ}
@@ -99,19 +99,19 @@ early s n h g e x = subst (Refuses s) x (record { least = h; greatest = g; place
 pub seen-refuses : (w : Bool) (m : Message) (v : ℤ) (s : List ℕ) (e : Refusal) → seen w m v s ≡ bad e → Refuses s e
 unfolding seen
 seen-refuses w m (negsuc v) s e d = early s 1 (omega arith) (omega arith) e (cc)
-seen-refuses w m (pos v) s e d = go (leb v (m .last)) (leb (length s) most) (readRows w append (shape m v) 0 (replicate (suc (m .tables)) []) 0 s) refl w d
+seen-refuses w m (pos v) s e d =
+    by-test (leb v (m .last))
+    (λ a. by-test (leb (length s) most)
+    (λ b. by-result (readRows w append (shape m v) 0 (replicate (suc (m .tables)) []) 0 s) (λ st n i. over-end st n w (rw (a, b, i) at d)) (λ c i. inside c (tells-rows w append (shape m v) 0 _ .law 0 s c i) (rw (a, b, i) at d)))
+    (λ b. let g : _≡_ {A = Res Tables} (bad (because 2 0)) (bad e) = rw (a, b) at d in early s 2 (omega arith) (omega arith) e (cc)))
+    (λ a. let g : _≡_ {A = Res Tables} (bad (because 1 0)) (bad e) = rw a at d in early s 1 (omega arith) (omega arith) e (cc))
   where
-    over-end : (st : Tables) (n : ℕ) (b : Bool) → ltb n (length s) ≡ b → cond b (bad (because 9 n)) (ok st n) ≡ bad e → Refuses s e
-    over-end st n true h d = let x : because 9 n ≡ e = cc in subst (Refuses s) x (record { least = omega arith; greatest = omega arith; place-in = (let g = of-lt n (length s) h in omega arith); no-need = refl })
-    over-end st n false h d = not-ok (sym d)
+    over-end : (st : Tables) (n : ℕ) (q : Bool) → ended q (length s) (ok st n) ≡ bad e → Refuses s e
+    over-end st n false d = not-ok (sym d)
+    over-end st n true d =
+        by-test (ltb n (length s))
+        (λ h. let g : _≡_ {A = Res Tables} (bad (because 9 n)) (bad e) = rw h at d in let x : because 9 n ≡ e = cc in subst (Refuses s) x (record { least = omega arith; greatest = omega arith; place-in = omega (arith, of-lt n (length s) h); no-need = refl }))
+        (λ h. not-ok (sym (rw h at d)))
 
-    inside : (c : Refusal) → Told 0 s c → c ≡ e → Refuses s e
-    inside c t x = subst (Refuses s) x (record { least = (let h = t .least in omega arith); greatest = (let h = t .greatest in omega arith); place-in = (let h = t .before-end in omega arith); no-need = t .no-need })
-
-    go : (a b : Bool) (o : Res Tables) → readRows w append (shape m v) 0 (replicate (suc (m .tables)) []) 0 s ≡ o → (q : Bool) → cond a (cond b (ended q (length s) o) (bad (because 2 0))) (bad (because 1 0)) ≡ bad e → Refuses s e
-    go true true (ok st n) i true d = over-end st n (ltb n (length s)) refl d
-    go true true (ok st n) i false d = not-ok (sym d)
-    go true true (bad c) i true d = inside c (tells-rows w append (shape m v) 0 _ .law 0 s c i) (cc)
-    go true true (bad c) i false d = inside c (tells-rows w append (shape m v) 0 _ .law 0 s c i) (cc)
-    go true false o i q d = early s 2 (omega arith) (omega arith) e (cc)
-    go false b o i q d = early s 1 (omega arith) (omega arith) e (cc)
+    inside : (c : Refusal) → Told 0 s c → _≡_ {A = Res Tables} (bad c) (bad e) → Refuses s e
+    inside c t d = let x : c ≡ e = cc in subst (Refuses s) x (record { least = omega (arith, t .least); greatest = omega (arith, t .greatest); place-in = omega (arith, t .before-end); no-need = t .no-need })

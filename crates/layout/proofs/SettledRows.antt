@@ -187,9 +187,6 @@ module _ (h : Telling) where
     took-then [] qs cs ds es a b = subst (λ (u : List ℕ). Took qs u es) (sym a) b
     took-then (r ∷ rs) qs cs ds es a b = (a .0, took-then rs qs (drop (rowWidth K) cs) ds es (a .1) b)
 
-    took-from : (rs : List (List Shown)) (cs ds es : List ℕ) → ds ≡ cs → Took rs ds es → Took rs cs es
-    took-from rs cs ds es e a = subst (λ (u : List ℕ). Took rs u es) e a
-
     took-times : {A : Type 0} (d : Tables → A × Tables) (g : A → List (List Shown)) (N : ℕ) → ((st : Tables) → length (d st .1) ≡ length st) →
         ((st : Tables) → length st ≡ N → Took (g (d st .0)) (getD st t []) (getD (d st .1) t [])) → (n : ℕ) (st : Tables) → length st ≡ N → Took (flatten g (times n d st .0)) (getD st t []) (getD (times n d st .1) t [])
     unfolding times
@@ -211,8 +208,8 @@ module _ (h : Telling) where
       pub took : (l : Shape) (o : ℕ) (st : Tables) → length st ≡ N → eqb t o ≡ false → Tree l → Alike t K l → Took (rowsHeld t l (told h l o st .0)) (getD st t []) (getD (told h l o st .1) t [])
       unfolding told rowsHeld
       took end o st e a f k = refl
-      took (field j r) o st e a f k = took-from (rowsHeld t r (told h r o (pop o (width j) st .1) .0)) _ _ _ (pop-other t o (width j) st a) (took r o (pop o (width j) st .1) (length-pop o (width j) st ∙ e) a f k)
-      took (absent j r) o st e a f k = took-from (rowsHeld t r (told h r o (pop o (width j) st .1) .0)) _ _ _ (pop-other t o (width j) st a) (took r o (pop o (width j) st .1) (length-pop o (width j) st ∙ e) a f k)
+      took (field j r) o st e a f k = rw (pop-other t o (width j) st a) at (took r o (pop o (width j) st .1) (length-pop o (width j) st ∙ e) a f k)
+      took (absent j r) o st e a f k = rw (pop-other t o (width j) st a) at (took r o (pop o (width j) st .1) (length-pop o (width j) st ∙ e) a f k)
       took (array z u i r) o st e a f k =
           let S = pop o 1 st .1 in
           let n = count (getD (pop o 1 st .0) 0 0) in
@@ -220,9 +217,9 @@ module _ (h : Telling) where
           let g : Held i → List (List Shown) = λ y. cond (eqb t u) (own i y ∷ []) (rowsHeld t i y) in
           let X = times n (told h i u) S in
           let p : Took (flatten g (X .0)) (getD S t []) (getD (X .1) t []) = took-times (told h i u) g N (length-told i u) (λ su c. took-item i u su c (f .0) (k .0) (λ d. took i u su c d (f .1) (k .1))) n S b in
-          took-then (flatten g (X .0)) (rowsHeld t r (told h r o (X .1) .0)) _ (getD (X .1) t []) _ (took-from (flatten g (X .0)) _ _ _ (pop-other t o 1 st a) p)
+          took-then (flatten g (X .0)) (rowsHeld t r (told h r o (X .1) .0)) _ (getD (X .1) t []) _ (rw (pop-other t o 1 st a) at p)
           (took r o (X .1) (length-times (told h i u) (length-told i u) n S ∙ b) a (f .2) (k .2))
-      took (lacking z u i r) o st e a f k = took-from (rowsHeld t r (told h r o (pop o 1 st .1) .0)) _ _ _ (pop-other t o 1 st a) (took r o (pop o 1 st .1) (length-pop o 1 st ∙ e) a f k)
+      took (lacking z u i r) o st e a f k = rw (pop-other t o 1 st a) at (took r o (pop o 1 st .1) (length-pop o 1 st ∙ e) a f k)
 
     -- so they are the first rows of the table
     pub took-rows : (rs : List (List Shown)) (cs ds : List ℕ) → Took rs cs ds → rs ≡ map (row h K) (chunks (length rs) (rowWidth K) cs)

@@ -1,7 +1,7 @@
 -- Text is what the grammar says, UTF8-octets = *( UTF8-char ): the beginning that wellFormed tells is text, no longer one is, and behind it no character begins.
 use mathlib.Core.Bool.{Bool, _&&_, and-eq-true-iff, and-false, cond, false, false≢true, true}
 use mathlib.Core.List.{List, List·Memᴰ, List·Memᴰ·cases-cons, List·Memᴰ·head, List·Memᴰ·not-nil, List·Memᴰ·tail, [], _++_, _∷_, append-assoc, append-nil}
-use mathlib.Core.Logic.{_⊎_, inl, inr}
+use mathlib.Core.Logic.{inl, inr}
 use mathlib.Core.Path.{_∙_, _≡_, ap, refl, subst, sym}
 use Prim.Native.Nat.{_+_, _-_, _<_, _≤_, suc, zero, ℕ}
 use native.Mathlib.Numerals.{add-one}
@@ -11,7 +11,7 @@ use lib.ListN.{drop, getD, length, length-append, length-drop, take, take-append
 use lib.Seq.{drop-append-seam, drop-cons, drop-drop, length-take-le, take-add, take-length}
 use borrow.Author.Tests.{eq-eqb}
 use Rattle.layout.specs.Utf8.{Range, begins, characters, first, utf8, wellFormed, wellFormedFrom, within}
-use Rattle.layout.proofs.Tests.{by-test, le-false, of-eq, of-le}
+use Rattle.layout.proofs.Tests.{by-test, by-zero, le-false, of-eq, of-le}
 
 -- one of the alternatives of UTF8-char
 abbrev pub Alternative : List Range → Type 0
@@ -71,11 +71,7 @@ found (c ∷ cs) s h =
     (λ e. let k = found cs s (rw e at h) in rw e (record { c = k .c; listed = List·Memᴰ·tail (k .listed); size = k .size; begun = k .begun }))
 
 pub first-fits : (cs : List (List Range)) (s : List ℕ) → first cs s ≤ length s
-first-fits cs s = go (first cs s) refl
-  where
-    go : (n : ℕ) → first cs s ≡ n → first cs s ≤ length s
-    go zero e = omega arith
-    go (suc n) e = let k = found cs s (omega arith) in let h = begins-fits (k .c) s (k .begun) in omega arith
+first-fits cs s = by-zero (first cs s) (λ e. omega arith) (λ h. let k = found cs s h in omega (arith, k .size, begins-fits (k .c) s (k .begun)))
 
 -- ---- alternatives exclude each other by their first byte
 
@@ -101,13 +97,9 @@ rising-cons n r rs cs k =
     let b = and-eq-true-iff (leb (r .0) (r .1)) (rising (suc (r .1)) cs) .0 (a .1) in
     record { low = of-le n (r .0) (a .0); high = of-le (r .0) (r .1) (b .0); rest = b .1 }
 
-within-low : (r : Range) (b : ℕ) → within r b ≡ true → r .0 ≤ b
+within-inv : (r : Range) (b : ℕ) → within r b ≡ true → (r .0 ≤ b) × (b ≤ r .1)
 unfolding within
-within-low r b e = of-le (r .0) b (and-eq-true-iff (leb (r .0) b) (leb b (r .1)) .0 e .0)
-
-within-high : (r : Range) (b : ℕ) → within r b ≡ true → b ≤ r .1
-unfolding within
-within-high r b e = of-le b (r .1) (and-eq-true-iff (leb (r .0) b) (leb b (r .1)) .0 e .1)
+within-inv r b e = let a = and-eq-true-iff (leb (r .0) b) (leb b (r .1)) .0 e in (of-le (r .0) b (a .0), of-le b (r .1) (a .1))
 
 within-beyond : (r : Range) (b : ℕ) → r .1 < b → within r b ≡ false
 unfolding within
@@ -121,16 +113,14 @@ module _ (c : List Range) (P : ℕ → List (List Range) → Type 0)
   unfolding rising
   where-listed n [] k m = absurd (List·Memᴰ·not-nil m)
   where-listed n ([] ∷ cs) k m = absurd (false≢true k)
-  where-listed n ((r ∷ rs) ∷ cs) k m = go (rising-cons n r rs cs k) (λ i l. where-listed (suc (r .1)) cs i l) (List·Memᴰ·cases-cons m)
-    where
-      go : Rising n r cs → (rising (suc (r .1)) cs ≡ true → List·Memᴰ c cs → P (suc (r .1)) cs) → (c ≡ r ∷ rs) ⊎ List·Memᴰ c cs → P n ((r ∷ rs) ∷ cs)
-      go h f (inl i) = here n r rs cs h i
-      go h f (inr l) = past n r rs cs h l (f (h .rest) l)
+  where-listed n ((r ∷ rs) ∷ cs) k m =
+      let h = rising-cons n r rs cs k in
+      elim (List·Memᴰ·cases-cons m) as (λ x. P n ((r ∷ rs) ∷ cs)) [ inl i ↦ here n r rs cs h i | inr l ↦ past n r rs cs h l (where-listed (suc (r .1)) cs (h .rest) l) ]
 
 begins-from : (c : List Range) (b : ℕ) (s : List ℕ) → begins c (b ∷ s) ≡ true → (n : ℕ) (cs : List (List Range)) → rising n cs ≡ true → List·Memᴰ c cs → n ≤ b
 begins-from c b s e =
     where-listed c (λ n cs. n ≤ b)
-    (λ n r rs cs h i. let w = within-low r b (begins-cons r rs b s (rw i at e) .0) in omega arith)
+    (λ n r rs cs h i. omega (arith, within-inv r b (begins-cons r rs b s (rw i at e) .0) .0))
     (λ n r rs cs h l g. omega arith)
 
 apart : (c : List Range) (s : List ℕ) → begins c s ≡ true → (r : Range) (rs : List Range) (cs : List (List Range)) → rising (suc (r .1)) cs ≡ true → List·Memᴰ c cs → begins (r ∷ rs) s ≡ false
@@ -141,14 +131,7 @@ apart c (b ∷ s) e r rs cs k m = rw (within-beyond r b (begins-from c b s e (su
 -- ---- the first byte picks the alternative
 
 below : (n : ℕ) (cs : List (List Range)) → rising n cs ≡ true → (b : ℕ) (s : List ℕ) → b < n → first cs (b ∷ s) ≡ 0
-below n cs k b s h = go (first cs (b ∷ s)) refl
-  where
-    go : (m : ℕ) → first cs (b ∷ s) ≡ m → m ≡ 0
-    go zero e = refl
-    go (suc m) e =
-        let f = found cs (b ∷ s) (omega arith) in
-        let g = begins-from (f .c) b s (f .begun) n cs k (f .listed) in
-        absurd (omega arith)
+below n cs k b s h = by-zero (first cs (b ∷ s)) (λ e. e) (λ p. let f = found cs (b ∷ s) p in absurd (omega (arith, begins-from (f .c) b s (f .begun) n cs k (f .listed))))
 
 pub rising-rest : (n : ℕ) (r : Range) (rs : List Range) (cs : List (List Range)) → rising n ((r ∷ rs) ∷ cs) ≡ true → rising (suc (r .1)) cs ≡ true
 rising-rest n r rs cs k = rising-cons n r rs cs k .rest
@@ -157,7 +140,7 @@ rising-rest n r rs cs k = rising-cons n r rs cs k .rest
 pub first-at : (n : ℕ) (r : Range) (rs : List Range) (cs : List (List Range)) → rising n ((r ∷ rs) ∷ cs) ≡ true → (b : ℕ) (s : List ℕ) → within r b ≡ true → first ((r ∷ rs) ∷ cs) (b ∷ s) ≡ cond (begins rs s) (suc (length rs)) 0
 unfolding first begins
 first-at n r rs cs k b s w =
-    rw w (by-test (begins rs s) (λ d. rw d) (λ d. rw d (below (suc (r .1)) cs (rising-rest n r rs cs k) b s (let h = within-high r b w in omega arith))))
+    rw w (by-test (begins rs s) (λ d. rw d) (λ d. rw d (below (suc (r .1)) cs (rising-rest n r rs cs k) b s (omega (arith, within-inv r b w .1)))))
 
 pub first-past : (r : Range) (rs : List Range) (cs : List (List Range)) (b : ℕ) (s : List ℕ) → within r b ≡ false → first ((r ∷ rs) ∷ cs) (b ∷ s) ≡ first cs (b ∷ s)
 unfolding first begins
@@ -225,11 +208,9 @@ parts-more s n e h p =
 
 parts-upto : (k : ℕ) (s : List ℕ) → length s ≤ k → Parts s
 parts-upto zero s h = let g = first-fits characters s in parts-none s (omega arith)
-parts-upto (suc k) s h = go (first characters s) refl (λ n g. parts-upto k (drop n s) g)
-  where
-    go : (n : ℕ) → first characters s ≡ n → ((j : ℕ) → length (drop j s) ≤ k → Parts (drop j s)) → Parts s
-    go zero e f = parts-none s e
-    go (suc n) e f = parts-more s (suc n) e (omega arith) (f (suc n) (omega (arith, length-drop (suc n) s)))
+parts-upto (suc k) s h =
+    let n = first characters s in
+    by-zero n (parts-none s) (λ p. parts-more s n refl p (parts-upto k (drop n s) (omega (arith, length-drop n s))))
 
 parts : (s : List ℕ) → Parts s
 parts s = parts-upto (length s) s (omega arith)
