@@ -8,13 +8,13 @@ use native.Mathlib.Omega.{arith}
 use lib.Dec.{eqb, ltb}
 use lib.ListN.{drop, length, take}
 use Rattle.layout.specs.Reading.{Reader, fail, give, many, ok, pair, pick, primitive, then}
-use Rattle.layout.specs.Primitives.{Width, be, cell, checked, compact, empty, fixed, groups, int, lengthOf, plain, size, sized, unsigned, w16, w32}
+use Rattle.layout.specs.Primitives.{Width, be, cell, cellOf, checked, compact, empty, fixed, groups, int, lengthOf, plain, signed, size, sized, unsigned, w16, w32}
 use Rattle.layout.specs.Rows.{Basic, Shape, Value, absent, array, at, blob, end, field, lacking, natural, number, optional, standing, stands, tagRows}
 use Rattle.layout.specs.Read.{byBytes, read, readBasic}
 use Rattle.layout.specs.Answers.{most, shape}
 use Rattle.layout.proofs.Tests.{by-test, of-ne}
 use Rattle.layout.proofs.Local.{not-ok}
-use Rattle.layout.proofs.Steps.{Number, checked-inv, checked-some, int-inv, int-ok, many-none, many-uncons, pair-inv, split}
+use Rattle.layout.proofs.Steps.{Number, checked-inv, checked-some, given, int-inv, int-ok, many-none, many-uncons, pair-inv, split}
 use Rattle.layout.specs.Messages.ApiVersions as Api
 use mathlib.Core.Logic.{_≢_}
 
@@ -100,14 +100,8 @@ always-many r k h (suc n) p s xs m e =
     rw suc-mul (omega (arith, c .sum, h .law p s (c .x) (c .n) (c .first), always-many r k h n _ _ (c .xs) (c .m) (c .rest)))
 
 always-cell : (w : Width) → Always (cell w) (size w)
-unfolding cell give
-always-cell w = record {
-  law = λ p s x n e.
-      let d = split (int (size w)) _ p s x n e in
-      let c = d .second in
-      let z : 0 ≡ d .k = cc in
-      omega (arith, d .sum, int-inv (size w) p s (d .x) (d .n) (d .first) .used);
-}
+unfolding cell
+always-cell w = record { law = λ p s x n e. let u = given (int (size w)) (λ n. cellOf (signed w n)) p s x n e in int-inv (size w) p s (u .x) n (u .reads) .used }
 
 -- ---- a reader of known length in front: the place of the rest is a numeral
 

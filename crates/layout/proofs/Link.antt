@@ -19,7 +19,7 @@ use Rattle.layout.specs.Tables.{Span, absentCells, absentCount, cells, c
 use Rattle.layout.proofs.Every.{listOf}
 use Rattle.layout.proofs.Tests.{of-eq}
 use Rattle.layout.proofs.Local.{not-ok}
-use Rattle.layout.proofs.Steps.{Raw, by-result, length-many, raw-inv, split}
+use Rattle.layout.proofs.Steps.{Raw, Under, by-result, given, length-many, raw-inv}
 
 abbrev pub over : {A B : Type 0} → (A → B) → Res A → Res B
 over g (ok x n) = ok (g x) n
@@ -35,12 +35,6 @@ pub record Maps (W : Where) {A S : Type 0} (rs : Reader S) (r : Reader A) (g : A
 
 abbrev pub anywhere : Where
 anywhere = record { At = λ p s. Unit {0}; onward = λ p n s at. tt }
-
--- what is accepted was accepted so below
-pub record Under {A S : Type 0} (r : Reader A) (g : A → S) (p : ℕ) (s : List ℕ) (y : S) (n : ℕ) : Type 0 where
-  pub x : A
-  pub reads : r p s ≡ ok x n
-  pub is : g x ≡ y
 
 pub under : {W : Where} {A S : Type 0} (rs : Reader S) (r : Reader A) (g : A → S) → Maps W rs r g → (p : ℕ) (s : List ℕ) → W .At p s → (y : S) (n : ℕ) → rs p s ≡ ok y n → Under r g p s y n
 under rs r g m p s a y n e =
@@ -254,12 +248,10 @@ module _ {W : Where} {A B S : Type 0} (ri : Reader A) (rsi : S → Reader S) (gi
       (maps-then _ _ _ _ _ _ (λ x. itemsCell A true x ≡ minus) (maps-give (λ x. fold gi (listOf true x) (cell minus st)) none) (λ p s x k e. let q : none ≡ x = (unfold give in cc) in ap (itemsCell A true) (sym q)) (λ x q. behind true minus x q))
 
   given-some : (n : ℕ) → eqb n 0 ≡ false → (p : ℕ) (s : List ℕ) (x : Option (List A)) (k : ℕ) → then (many (n - 1) ri) (λ x. give (some x)) p s ≡ ok x k → itemsCell A true x ≡ countCell true n
-  unfolding give countCell
+  unfolding countCell
   given-some n z p s x k e =
-      let a = split (many (n - 1) ri) _ p s x k e in
-      let d = a .second in
-      let q : some (a .x) ≡ x = cc in
-      ap (itemsCell A true) (sym q) ∙ rw z (length-many ri (n - 1) p s (a .x) (a .n) (a .first))
+      let u = given (many (n - 1) ri) some p s x k e in
+      ap (itemsCell A true) (sym (u .is)) ∙ rw z (length-many ri (n - 1) p s (u .x) k (u .reads))
 
   array-some : (n : ℕ) → eqb n 0 ≡ false → Maps W (then (loop (n - 1) rsi (cell (countCell true n) st)) rsr) (then (then (many (n - 1) ri) (λ x. give (some x))) (λ x. then rr (λ y. give (x, y)))) (total true)
   array-some n z = maps-then _ _ _ _ _ _ (λ x. itemsCell A true x ≡ countCell true n) (maps-last _ _ _ (λ x. fold gi (listOf true x) (cell (countCell true n) st)) (maps-loop ri rsi gi hi (n - 1) (cell (countCell true n) st)))

@@ -68,6 +68,21 @@ split r f p s y m e =
     (λ w c. not-ok (rw (d, c) at e)))
     (λ c d. not-ok (rw d at e))
 
+-- what was accepted of r, and what g makes of it
+pub record Under {A S : Type 0} (r : Reader A) (g : A → S) (p : ℕ) (s : List ℕ) (y : S) (n : ℕ) : Type 0 where
+  pub x : A
+  pub reads : r p s ≡ ok x n
+  pub is : g x ≡ y
+
+pub given : {A S : Type 0} (r : Reader A) (g : A → S) (p : ℕ) (s : List ℕ) (y : S) (n : ℕ) → then r (λ x. give (g x)) p s ≡ ok y n → Under r g p s y n
+unfolding give
+given r g p s y n e =
+    let a = split r _ p s y n e in
+    let c = a .second in
+    let z : 0 ≡ a .k = cc in
+    let m : a .n ≡ n = omega (arith, a .sum) in
+    record { x = a .x; reads = a .first ∙ ap (λ (j : ℕ). ok (a .x) j) m; is = cc }
+
 pub record Raw (n : ℕ) (s x : List ℕ) (m : ℕ) : Type 0 where
   pub fits : n ≤ length s
   pub is : x ≡ take n s
@@ -86,14 +101,11 @@ pub record Number (k : ℕ) (s : List ℕ) (x n : ℕ) : Type 0 where
   pub used : n ≡ k
 
 pub int-inv : (k p : ℕ) (s : List ℕ) (x n : ℕ) → int k p s ≡ ok x n → Number k s x n
-unfolding int give
+unfolding int
 int-inv k p s x n e =
-    let a = split (raw k) _ p s x n e in
-    let r = raw-inv k p s (a .x) (a .n) (a .first) in
-    let c = a .second in
-    let z : 0 ≡ a .k = cc in
-    let y : be 0 (a .x) ≡ x = cc in
-    record { fits = r .fits; is = sym y ∙ ap (be 0) (r .is); used = omega (arith, a .sum, r .used) }
+    let u = given (raw k) (be 0) p s x n e in
+    let r = raw-inv k p s (u .x) n (u .reads) in
+    record { fits = r .fits; is = sym (u .is) ∙ ap (be 0) (r .is); used = r .used }
 
 -- ---- a loop that reads items: what is read so far, one more, and a refusal
 

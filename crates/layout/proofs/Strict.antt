@@ -2,13 +2,13 @@
 -- so a body that a reader takes only in that form is what its value is written as. For every shape.
 use mathlib.Core.Bool.{Bool, cond, false, true}
 use mathlib.Core.List.{List, [], _++_, _∷_, append-assoc, append-nil}
-use mathlib.Core.Option.{Option, none, some}
+use mathlib.Core.Option.{none, some}
 use mathlib.Core.Path.{_∙_, _≡_, ap, refl, subst, sym}
 use Prim.Native.Nat.{_%_, _*_, _+_, _-_, _/_, _<_, _^_, suc, zero, ℕ}
 use native.Mathlib.Nat.{add-suc, add-zero, pow-suc, suc-add, zero-add}
 use native.Mathlib.Numerals.{add-one}
 use native.Mathlib.Omega.{arith}
-use lib.Dec.{T, eqb, eqb→eq}
+use lib.Dec.{T, eqb, eqb→eq, ltb}
 use lib.ListN.{drop, length, take}
 use lib.Seq.{length-take-le, take-add}
 use Rattle.layout.specs.Reading.{Reader, Res, bad, because, fail, give, here, many, more, ok, pair, pick, placed, primitive, raw, then}
@@ -20,8 +20,9 @@ use Rattle.layout.specs.Write.{each, write, writeBasic}
 use Rattle.layout.proofs.Cells.{extend, extend-bytes, powers}
 use Rattle.layout.proofs.Every.{All}
 use Rattle.layout.proofs.Local.{not-ok}
-use Rattle.layout.proofs.Steps.{by-result, checked-inv, checked-some, int-inv, length-many, many-none, many-uncons, pair-inv, passed, piece-inv, primitive-inv, split, then-ok}
+use Rattle.layout.proofs.Steps.{by-result, checked-inv, checked-some, given, int-inv, length-many, many-none, many-uncons, pair-inv, passed, piece-inv, primitive-inv, split, then-ok}
 use Rattle.layout.proofs.Kept.{Kept, kept-read}
+use Rattle.layout.proofs.Tests.{by-test, of-eq}
 
 abbrev pub Bytes : List ℕ → Type 0
 Bytes s = All (λ b. b < 256) s
@@ -42,23 +43,12 @@ pub record Canon {A : Type 0} (r : Reader A) (w : A → List ℕ) (Q : A → Typ
 abbrev Any : {A : Type 0} → A → Type 0
 Any x = Unit {0}
 
-canon-give : {A : Type 0} (x : A) (w : A → List ℕ) → w x ≡ [] → Canon (give x) w (λ y. y ≡ x)
-unfolding give
-canon-give x w e = record { law = λ p s y n b h. let z : 0 ≡ n = cc in let v : x ≡ y = cc in record { same = rw (← v, ← z) e; fact = sym v } }
-
 canon-primitive : {A : Type 0} (r : Reader A) (w : A → List ℕ) (Q : A → Type 0) → Canon r w Q → Canon (primitive r) w Q
 canon-primitive r w Q c = record { law = λ p s x n b h. c .law p s x n b (primitive-inv r p s x n h) }
 
-canon-then : {A B : Type 0} (r : Reader A) (f : A → Reader B) (v : A → List ℕ) (Q : A → Type 0) (u : A → B → List ℕ) (w : B → List ℕ) (P : A → B → Type 0) (R : B → Type 0) →
-    Canon r v Q → ((x : A) → Q x → Canon (f x) (u x) (P x)) → ((x : A) (y : B) → Q x → P x y → (w y ≡ v x ++ u x y) × R y) → Canon (then r f) w R
-canon-then r f v Q u w P R c d g = record {
-  law = λ p s y m b h.
-      let a = split r f p s y m h in
-      let i = c .law p s (a .x) (a .n) b (a .first) in
-      let j = d (a .x) (i .fact) .law (p + a .n) (drop (a .n) s) y (a .k) (bytes-drop (a .n) s b) (a .second) in
-      let e = g (a .x) y (i .fact) (j .fact) in
-      record { same = e .0 ∙ (λ t. i .same t ++ j .same t) ∙ sym (take-add (a .n) (a .k) s) ∙ ap (λ (z : ℕ). take z s) (sym (a .sum)); fact = e .1 };
-}
+-- n bytes and then k, m in all
+took-both : (n k m : ℕ) (s v u : List ℕ) → v ≡ take n s → u ≡ take k (drop n s) → m ≡ n + k → v ++ u ≡ take m s
+took-both n k m s v u a b e = rw (e, a, b) (sym (take-add n k s))
 
 canon-pair : {A B : Type 0} (r : Reader A) (q : Reader B) (v : A → List ℕ) (u : B → List ℕ) → Canon r v Any → Canon q u Any → Canon (pair r q) (λ z. v (z .0) ++ u (z .1)) Any
 canon-pair r q v u c d = record {
@@ -66,7 +56,7 @@ canon-pair r q v u c d = record {
       let a = pair-inv r q p s z m h in
       let i = c .law p s (z .0) (a .n) b (a .first) .same in
       let j = d .law (p + a .n) (drop (a .n) s) (z .1) (a .k) (bytes-drop (a .n) s b) (a .second) .same in
-      record { same = (λ t. i t ++ j t) ∙ sym (take-add (a .n) (a .k) s) ∙ ap (λ (k : ℕ). take k s) (sym (a .sum)); fact = tt };
+      record { same = took-both (a .n) (a .k) m s _ _ i j (a .sum); fact = tt };
 }
 
 -- the bytes of a big-endian number
@@ -106,19 +96,14 @@ canon-int k = record {
       record { same = ap (bytes k) (a .is) ∙ f ∙ ap (λ (m : ℕ). take m s) (sym (a .used)); fact = rw (a .is) g };
 }
 
-canon-weak : {A : Type 0} (r : Reader A) (w : A → List ℕ) (Q P : A → Type 0) → Canon r w Q → ((x : A) → Q x → P x) → Canon r w P
-canon-weak r w Q P c f = record { law = λ p s x n b h. let a = c .law p s x n b h in record { same = a .same; fact = f x (a .fact) } }
-
-canon-pick : {A : Type 0} (b : Bool) (r q : Reader A) (w : A → List ℕ) (Q : A → Type 0) → (b ≡ true → Canon r w Q) → (b ≡ false → Canon q w Q) → Canon (pick b r q) w Q
-unfolding pick
-canon-pick true r q w Q f g = f refl
-canon-pick false r q w Q f g = g refl
-
 canon-cell : (w : Width) → Canon (cell w) (bytes (size w)) Any
 unfolding cell
-canon-cell w =
-    canon-then (int (size w)) _ (bytes (size w)) (λ n. n < 256 ^ size w) (λ n c. []) _ (λ n c. c ≡ extend w n) Any (canon-int (size w)) (λ n u. canon-give (extend w n) (λ c. []) refl)
-    (λ n c u e. (ap (bytes (size w)) e ∙ extend-bytes w n (let p = powers w in omega (arith, p .power)) ∙ sym (append-nil (bytes (size w) n)), tt))
+canon-cell w = record {
+  law = λ p s c n b h.
+      let u = given (int (size w)) (extend w) p s c n h in
+      let i = canon-int (size w) .law p s (u .x) n b (u .reads) in
+      record { same = ap (bytes (size w)) (sym (u .is)) ∙ extend-bytes w (u .x) (let q = powers w in omega (arith, q .power, i .fact)) ∙ i .same; fact = tt };
+}
 
 canon-many : {A : Type 0} (r : Reader A) (w : A → List ℕ) → Canon r w Any → (n : ℕ) → Canon (many n r) (each w) (λ xs. length xs ≡ n)
 unfolding each
@@ -130,7 +115,7 @@ canon-many r w c n = record { law = λ p s xs m b h. record { same = go n p s xs
         let a = many-uncons r n p s xs m h in
         let i = c .law p s (a .x) (a .n) b (a .first) .same in
         let j = go n (p + a .n) (drop (a .n) s) (a .xs) (a .m) (bytes-drop (a .n) s b) (a .rest) in
-        ap (each w) (a .all) ∙ (λ t. i t ++ j t) ∙ sym (take-add (a .n) (a .m) s) ∙ ap (λ (k : ℕ). take k s) (sym (a .sum))
+        ap (each w) (a .all) ∙ took-both (a .n) (a .m) m s _ _ i j (a .sum)
 
 -- ---- lengths and counts
 
@@ -143,61 +128,52 @@ len-one : (z : Size) (n : ℕ) → lenBytes z (n + 1) ≡ lengthBytes z n
 unfolding lenBytes
 len-one z n = ap (lenBytes z) (add-one n)
 
-canon-fixed : (w : Width) (m : Null) (v : Reader ℕ) → Canon (lengthOf v (fixed w m)) (lenBytes (fixed w m)) Any
-unfolding lengthOf lengthBytes nullBytes lenBytes fail
-canon-fixed w m v =
-    let f = lenBytes (fixed w m) in
-    canon-then (int (size w)) _ (bytes (size w)) (λ n. n < 256 ^ size w) (λ x n. []) f (λ x n. f n ≡ bytes (size w) x) Any (canon-int (size w))
-    (λ x u. canon-pick _ _ _ _ _
-    (λ e. canon-weak _ _ (λ n. n ≡ x + 1) _ (canon-give (x + 1) (λ n. []) refl) (λ n d. ap f d ∙ len-one (fixed w m) x))
-    (λ e. canon-pick _ _ _ _ _
-    (λ d. canon-weak _ _ (λ n. n ≡ 0) _ (canon-give 0 (λ n. []) refl) (λ n g. ap f g ∙ ap (bytes (size w)) (sym (eqb→eq x (2 ^ bits w - 1) (subst T (sym d) tt)))))
-    (λ d. record { law = λ p s n k b h. not-ok h })))
-    (λ x n u e. (e ∙ sym (append-nil (bytes (size w) x)), tt))
-
-canon-length : (v : Reader ℕ) → Canon v unsignedBytes Any → (z : Size) → Canon (lengthOf v z) (lenBytes z) Any
-canon-length v c (fixed w m) = canon-fixed w m v
-canon-length v c (compact m) = unfold lengthOf in (record { law = λ p s x n b h. let a = c .law p s x n b h in record { same = same-bytes x ∙ a .same; fact = tt } })
-  where
-    same-bytes : (x : ℕ) → lenBytes (compact m) x ≡ unsignedBytes x
-    same-bytes zero = unfold lenBytes nullBytes in refl
-    same-bytes (suc x) = unfold lenBytes lengthBytes in ap unsignedBytes (add-one x)
-canon-length v c plain =
-    unfold lengthOf in
-    (canon-then v _ unsignedBytes Any (λ x n. []) (lenBytes plain) (λ x n. n ≡ x + 1) Any c (λ x u. canon-give (x + 1) (λ n. []) refl)
-    (λ x n u e. (ap (lenBytes plain) e ∙ len-one plain x ∙ (unfold lengthBytes in (sym (append-nil (unsignedBytes x)))), tt)))
+-- v reads only what is written so
+module _ (v : Reader ℕ) (c : Canon v unsignedBytes Any) where
+  length-same : (z : Size) (p : ℕ) (s : List ℕ) (x n : ℕ) → Bytes s → lengthOf v z p s ≡ ok x n → lenBytes z x ≡ take n s
+  unfolding lengthOf lengthBytes nullBytes lenBytes pick give fail
+  length-same (fixed w m) p s x n b h =
+      let a = split (int (size w)) _ p s x n h in
+      let i = canon-int (size w) .law p s (a .x) (a .n) b (a .first) .same in
+      by-test (ltb (a .x) (2 ^ (bits w - 1)))
+      (λ d. let g : ok (a .x + 1) 0 ≡ ok x (a .k) = rw d at (a .second) in let y : a .x + 1 ≡ x = cc in let z : 0 ≡ a .k = cc in let q : a .n ≡ n = omega (arith, a .sum) in
+      ap (lenBytes (fixed w m)) (sym y) ∙ len-one (fixed w m) (a .x) ∙ i ∙ ap (λ (k : ℕ). take k s) q)
+      (λ d. by-test (eqb (a .x) (2 ^ bits w - 1))
+      (λ t. let g : ok 0 0 ≡ ok x (a .k) = rw (d, t) at (a .second) in let y : 0 ≡ x = cc in let z : 0 ≡ a .k = cc in let q : a .n ≡ n = omega (arith, a .sum) in
+      ap (lenBytes (fixed w m)) (sym y) ∙ ap (bytes (size w)) (sym (of-eq _ _ t)) ∙ i ∙ ap (λ (k : ℕ). take k s) q)
+      (λ t. not-ok (rw (d, t) at (a .second))))
+  length-same (compact m) p s zero n b h = c .law p s zero n b h .same
+  length-same (compact m) p s (suc x) n b h = ap unsignedBytes (add-one x) ∙ c .law p s (suc x) n b h .same
+  length-same plain p s x n b h = let u = given v (λ n. n + 1) p s x n h in ap (lenBytes plain) (sym (u .is)) ∙ len-one plain (u .x) ∙ c .law p s (u .x) n b (u .reads) .same
 
 len-some : (z : Size) (m l : ℕ) → eqb m 0 ≡ false → l ≡ m - 1 → lengthBytes z l ≡ lenBytes z m
 unfolding lenBytes
 len-some z zero l e h = let z : _≡_ {A = ℕ} 0 1 = cc in absurd (omega arith)
 len-some z (suc m) l e h = ap (lengthBytes z) (omega arith)
 
-abbrev items : {A : Type 0} → (List A → List ℕ) → Option (List A) → List ℕ
-items w none = []
-items w (some xs) = w xs
-
 -- null is no value, and so it is not allowed
-canon-sized : {A : Type 0} (b a : Bool) (e : ℕ) (f : Size) (len : Reader ℕ) (r : ℕ → Reader (List A)) (w : List A → List ℕ) → (b ≡ false → a ≡ false) → Canon len (lenBytes f) Any → ((n : ℕ) → Canon (r n) w (λ xs. length xs ≡ n)) →
-    Canon (sized b a e len r) (sizedBytes b f w) Any
-unfolding sized sizedBytes lenBytes
-canon-sized {A} true a e f len r w no-null c d =
-    canon-then (checked true e len) _ (lenBytes f) Any (λ m o. items w o) (sizedBytes true f w) (λ m o. sizedBytes true f w o ≡ lenBytes f m ++ items w o) Any
-    (record { law = λ p s x n b h. c .law p s x n b (checked-inv true e len p s x n h) })
-    (λ m u. canon-pick _ _ _ _ _
-    (λ t. canon-weak _ _ (λ o. o ≡ none) _ (canon-give none (items w) refl)
-    (λ o g. ap (sizedBytes true f w) g ∙ ap (lenBytes f) (sym (eqb→eq m 0 (subst T (sym t) tt))) ∙ sym (append-nil (lenBytes f m)) ∙ ap (λ (o : Option (List A)). lenBytes f m ++ items w o) (sym g)))
-    (λ t. canon-then (r (m - 1)) _ w (λ xs. length xs ≡ m - 1) (λ xs o. []) (items w) (λ xs o. o ≡ some xs) _ (d (m - 1))
-    (λ xs l. canon-give (some xs) (λ o. []) refl)
-    (λ xs o l g. (
-      ap (items w) g ∙ sym (append-nil (w xs)),
-      ap (sizedBytes true f w) g ∙ ap (λ (z : List ℕ). z ++ w xs) (len-some f m (length xs) t l) ∙ ap (λ (o : Option (List A)). lenBytes f m ++ items w o) (sym g),
-    ))))
-    (λ m o u g. (g, tt))
-canon-sized {A} false a e f len r w no-null c d = subst (λ (t : Bool). Canon (sized false t e len r) (sizedBytes false f w) Any) (sym (no-null refl))
-    (canon-then (checked false e len) _ (lenBytes f) (λ m. eqb m 0 ≡ false) (λ m xs. w xs) (sizedBytes false f w) (λ m xs. length xs ≡ m - 1) Any
-    (record { law = λ p s x n b h. let a = c .law p s x n b (checked-inv false e len p s x n h) in record { same = a .same; fact = checked-some e len p s x n h } })
-    (λ m u. d (m - 1))
-    (λ m xs t l. (ap (λ (z : List ℕ). z ++ w xs) (len-some f m (length xs) t l), tt)))
+canon-sized : {A : Type 0} (b a : Bool) (e : ℕ) (f : Size) (len : Reader ℕ) (r : ℕ → Reader (List A)) (w : List A → List ℕ) → (b ≡ false → a ≡ false) →
+    ((p : ℕ) (s : List ℕ) (x n : ℕ) → Bytes s → len p s ≡ ok x n → lenBytes f x ≡ take n s) → ((n : ℕ) → Canon (r n) w (λ xs. length xs ≡ n)) → Canon (sized b a e len r) (sizedBytes b f w) Any
+unfolding sized sizedBytes lenBytes pick give
+canon-sized true a e f len r w no-null c d = record {
+  law = λ p s o m b h.
+      let i = split (checked true e len) _ p s o m h in
+      let j = c p s (i .x) (i .n) b (checked-inv true e len p s (i .x) (i .n) (i .first)) in
+      by-test (eqb (i .x) 0)
+      (λ t. let g : ok none 0 ≡ ok o (i .k) = rw t at (i .second) in let y : none ≡ o = cc in let z : 0 ≡ i .k = cc in let q : i .n ≡ m = omega (arith, i .sum) in
+      record { same = ap (sizedBytes true f w) (sym y) ∙ ap (lenBytes f) (sym (of-eq (i .x) 0 t)) ∙ j ∙ ap (λ (k : ℕ). take k s) q; fact = tt })
+      (λ t.
+      let u = given (r (i .x - 1)) some (p + i .n) (drop (i .n) s) o (i .k) (rw t at (i .second)) in
+      let k = d (i .x - 1) .law (p + i .n) (drop (i .n) s) (u .x) (i .k) (bytes-drop (i .n) s b) (u .reads) in
+      record { same = ap (sizedBytes true f w) (sym (u .is)) ∙ took-both (i .n) (i .k) m s (lengthBytes f (length (u .x))) (w (u .x)) (len-some f (i .x) (length (u .x)) t (k .fact) ∙ j) (k .same) (i .sum); fact = tt });
+}
+canon-sized false a e f len r w no-null c d = rw (no-null refl) (record {
+  law = λ p s xs m b h.
+      let i = split (checked false e len) _ p s xs m h in
+      let j = c p s (i .x) (i .n) b (checked-inv false e len p s (i .x) (i .n) (i .first)) in
+      let k = d (i .x - 1) .law (p + i .n) (drop (i .n) s) xs (i .k) (bytes-drop (i .n) s b) (i .second) in
+      record { same = took-both (i .n) (i .k) m s _ _ (len-some f (i .x) (length xs) (checked-some e len p s (i .x) (i .n) (i .first)) (k .fact) ∙ j) (k .same) (i .sum); fact = tt };
+})
 
 null-empty : (m : Null) → isKept m ≡ false → admitsNull true m ≡ false
 null-empty never e = refl
@@ -229,16 +205,16 @@ module _ (v : Reader ℕ) (fl : Reader Bool) (cv : Canon v unsignedBytes Any) (c
   canon-basic boolean = cf
   canon-basic level = canon-cell w8
   canon-basic natural = cv
-  canon-basic (text z) = canon-primitive _ _ _ (canon-sized (keeps z) _ _ z _ _ (λ y. y) (none-empty z) (canon-length v cv z) (canon-part utf8))
-  canon-basic (blob z) = canon-primitive _ _ _ (canon-sized (keeps z) _ _ z _ _ (λ y. y) (none-empty z) (canon-length v cv z) (canon-part (λ b. true)))
+  canon-basic (text z) = canon-primitive _ _ _ (canon-sized (keeps z) _ _ z _ _ (λ y. y) (none-empty z) (length-same v cv z) (canon-part utf8))
+  canon-basic (blob z) = canon-primitive _ _ _ (canon-sized (keeps z) _ _ z _ _ (λ y. y) (none-empty z) (length-same v cv z) (canon-part (λ b. true)))
   canon-basic (optional d k) = canon-basic k
 
   pub canon-read : (l : Shape) → Canon (read strictly l) (write l) Any
   unfolding read write
-  canon-read end = canon-weak _ _ (λ y. y ≡ tt) _ (canon-give tt (write end) refl) (λ y e. tt)
+  canon-read end = record { law = λ p s x n b h. let z : 0 ≡ n = (unfold give in cc) in record { same = ap (λ (k : ℕ). take k s) z; fact = tt } }
   canon-read (field k r) = canon-pair _ _ (writeBasic k) (write r) (canon-basic k) (canon-read r)
   canon-read (absent k r) = canon-read r
-  canon-read (array z t i r) = canon-pair _ _ _ (write r) (canon-sized (keeps z) _ _ z _ _ (each (write i)) (none-empty z) (canon-length v cv z) (canon-many _ (write i) (canon-read i))) (canon-read r)
+  canon-read (array z t i r) = canon-pair _ _ _ (write r) (canon-sized (keeps z) _ _ z _ _ (each (write i)) (none-empty z) (length-same v cv z) (canon-many _ (write i) (canon-read i))) (canon-read r)
   canon-read (lacking z t i r) = canon-read r
 
 -- ---- readers that take less
