@@ -6,7 +6,7 @@ use mathlib.Core.Path.{_∙_, _≡_, ap, refl, subst, sym}
 use Prim.Native.Nat.{_%_, _*_, _+_, _-_, _/_, _<_, _^_, _≤_, suc, zero, ℕ}
 use native.Mathlib.Nat.{div-add-mod', pow-suc, suc-ne-zero}
 use native.Mathlib.Omega.{arith}
-use lib.Dec.{eqb, lit<, ltb}
+use lib.Dec.{eqb, leb, lit<, ltb}
 use lib.ListN.{length, length-append}
 use lib.Seq.{drop-append-seam, take-append-seam}
 use borrow.Author.Tests.{eq-eqb}
@@ -164,10 +164,6 @@ pub back-integer : (w : Width) (n : ℕ) → n < 2 ^ bits w → Back (integer w)
 unfolding integer integerBytes
 back-integer w n h = subst (λ (u : List ℕ). Back (then (int (size w)) (λ n. give (signed w n))) u (signed w n)) (sym (extend-bytes w n h)) (back-map (int (size w)) (signed w) _ n (back-int (size w) n (let p = powers w in omega (arith, p .power))))
 
-back-level : (c : ℕ) → c ≤ 1 → holds w8 c ≡ true
-unfolding holds
-back-level c h = rw (lt-true c 128 (omega arith))
-
 -- ---- faults: none in two is none in each
 
 pub or-none : (a b : ℕ) → or a b ≡ 0 → (a ≡ 0) × (b ≡ 0)
@@ -291,7 +287,7 @@ module _ (q : Bool) where
   back-basic (number w) x h m = back-cell w x (unless-none _ 10 h)
   back-basic boolean true h m = back-map (int 1) (λ n. ltb 0 n) (bytes 1 1) 1 (back-int 1 1 (lit< tt))
   back-basic boolean false h m = back-map (int 1) (λ n. ltb 0 n) (bytes 1 0) 0 (back-int 1 0 (lit< tt))
-  back-basic level x h m = back-cell w8 x (back-level x (of-le x 1 (unless-none _ 10 h)))
+  back-basic level x h m = back-cell w8 x (unfold holds in rw (lt-true x 128 (omega (arith, of-le x 1 (unless-none (leb x 1) 10 h)))))
   back-basic natural x h m = back-unsigned x (small-none _ _ 10 h)
   back-basic (text z) x h m = back-primitive _ _ _ (back-sized (keeps z) _ _ z _ (λ y. y) _ refl (λ y. omega arith) (λ y u v. back-part utf8 y u) x h m)
   back-basic (blob z) x h m = back-primitive _ _ _ (back-sized (keeps z) _ _ z _ (λ y. y) (λ y. 0) refl (λ y. omega arith) (λ y u v. back-part (λ b. true) y (unfold unless in refl)) x h m)

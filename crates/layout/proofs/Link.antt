@@ -117,9 +117,7 @@ pub maps-pair : {W : Where} {A B S U : Type 0} (rs : Reader S) (r : Reader A) (g
 unfolding pair
 maps-pair rs r g qs q h a b = maps-next _ _ g _ _ _ a (λ x. maps-next _ _ h _ _ _ b (λ y. maps-give _ (x, y)))
 
--- ---- two codecs
-
--- ---- a value's texts, changed
+-- ---- two codecs: a value's texts, changed
 
 module _ {X Y : Type 0} (g : X → Y) where
   abbrev pub mapMaybe : (b : Bool) → Maybe b X → Maybe b Y
@@ -203,9 +201,7 @@ by-bytes msg q l =
     (λ n p s b m at r. let e : length b ≡ n = ap length (r .is) ∙ length-take-le n s (r .fits) in rw (e, at) (r .is))
     unsigned flag q l
 
--- ---- the rows that a read keeps are those of the value that it gives
-
--- ---- the rows of a value, kept behind what was kept before
+-- ---- the rows that a read keeps are those of the value that it gives, kept behind what was kept before
 
 abbrev pub fold : {A S : Type 0} → (A → S → S) → List A → S → S
 fold g [] st = st

@@ -3,7 +3,7 @@ use mathlib.Core.Bool.{Bool, false, true}
 use mathlib.Core.List.{List}
 use mathlib.Core.Path.{_∙_, _≡_, ap, refl, sym}
 use Prim.Native.Nat.{_%_, _*_, _+_, _-_, _<_, _^_, _≤_, suc, zero, ℕ}
-use native.Mathlib.Nat.{pow-suc}
+use native.Mathlib.Nat.{one-le-pow, pow-suc}
 use native.Mathlib.Omega.{arith}
 use lib.Dec.{ltb}
 use lib.ListN.{length, length-drop}
@@ -30,10 +30,6 @@ record Group (k m a x n : ℕ) : Type 0 where
   small : v < 2 * 128 ^ k
   some-byte : 1 ≤ n
 
-pow-pos : (k : ℕ) → 1 ≤ 128 ^ k
-pow-pos zero = omega arith
-pow-pos (suc k) = omega (arith, pow-suc 128 k, pow-pos k)
-
 group-more : (k m a b v x j n : ℕ) → x ≡ a + b % 128 * m + v * (m * 128) → v < 2 * 128 ^ k → 1 ≤ j → n ≡ j → Group (suc k) m a x n
 group-more k m a b v x j n e h i o = record { v = b % 128 + v * 128; is = omega arith; small = omega (arith, pow-suc 128 k); some-byte = omega arith }
 
@@ -52,7 +48,7 @@ groups-inv (suc k) m a p s x n h =
     (λ e.
     let g : ok (a + d .x * m) 0 ≡ ok x (d .k) = rw e at (d .second) in
     let z : a + d .x * m ≡ x = cc in
-    record { v = d .x; is = sym z; small = omega (arith, of-lt (d .x) 128 e, pow-pos k, pow-suc 128 k); some-byte = omega (arith, d .sum) })
+    record { v = d .x; is = sym z; small = omega (arith, of-lt (d .x) 128 e, one-le-pow k 128 (omega arith), pow-suc 128 k); some-byte = omega (arith, d .sum) })
     (λ e. let r = groups-inv k _ _ _ _ x _ (rw e at (d .second)) in group-more k m a (d .x) (r .v) x n n (r .is) (r .small) (omega (arith, d .sum)) refl)
 
 pub unsigned-small : (p : ℕ) (s : List ℕ) (x n : ℕ) → unsigned p s ≡ ok x n → (x ≤ minus) × (1 ≤ n)

@@ -8,7 +8,7 @@ use lib.Dec.{eqb}
 use lib.ListN.{drop, getD, length, length-map, length-replicate, length-set, replicate, take}
 use lib.Seq.{drop-at, drop-drop, getD-set-other, getD-set-same, getD-take, take-at, take-take}
 use Rattle.layout.specs.Reading.{ok}
-use Rattle.layout.specs.Primitives.{Maybe, keeps, minus}
+use Rattle.layout.specs.Primitives.{keeps, minus}
 use Rattle.layout.specs.Rows.{Shape, Value, absent, array, end, field, lacking}
 use Rattle.layout.specs.Tables.{Span, Tables, absentCells, append, cells, chunks, count, kindOf, pop, rowWidth, rowsOf, slice, times, width}
 use Rattle.layout.specs.Answers.{meant}
@@ -85,20 +85,9 @@ rowsHeld t (absent k r) x = rowsHeld t r (x .1)
 rowsHeld t (array z u i r) x = flatten (λ y. cond (eqb t u) (own i y ∷ []) (rowsHeld t i y)) (x .0 .1) ++ rowsHeld t r (x .1)
 rowsHeld t (lacking z u i r) x = rowsHeld t r (x .1)
 
--- the arrays of table t have items of shape K
-abbrev Alike : ℕ → Shape → Shape → Type 0
-Alike t K end = Unit {0}
-Alike t K (field k r) = Alike t K r
-Alike t K (absent k r) = Alike t K r
-Alike t K (array z u i r) = (eqb t u ≡ true → i ≡ K) × Alike t K i × Alike t K r
-Alike t K (lacking z u i r) = Alike t K r
-
-alike : (t : ℕ) (L l : Shape) → Kinds L l → Alike t (kindOf t L) l
-alike t L end h = tt
-alike t L (field k r) h = alike t L r h
-alike t L (absent k r) h = alike t L r h
-alike t L (array z u i r) h = (λ e. sym (h .0) ∙ ap (λ (n : ℕ). kindOf n L) (sym (of-eq t u e)), alike t L i (h .1), alike t L r (h .2))
-alike t L (lacking z u i r) h = alike t L r h
+-- the items of an array of table t are the rows of that table
+kind-is : (t u : ℕ) (L i : Shape) → kindOf u L ≡ i → eqb t u ≡ true → i ≡ kindOf t L
+kind-is t u L i k e = sym k ∙ ap (λ (n : ℕ). kindOf n L) (sym (of-eq t u e))
 
 module _ (h : Telling) where
   length-times : {A : Type 0} (d : Tables → A × Tables) → ((st : Tables) → length (d st .1) ≡ length st) → (n : ℕ) (st : Tables) → length (times n d st .1) ≡ length st
@@ -175,17 +164,17 @@ module _ (h : Telling) where
   row-front (lacking z t i r) [] = refl
   row-front (lacking z t i r) (c ∷ cs) = ap (λ (s : List Shown). num (h .lackedOf z c) ∷ s) (row-front r cs)
 
-  -- ---- the rows of table t, all of shape K
+  -- ---- the rows of table t
 
-  module _ (t : ℕ) (K : Shape) where
+  module _ (t : ℕ) (L : Shape) where
     -- the rows rs are told from the front of cs, one behind the other, and ds is left
     abbrev pub Took : List (List Shown) → List ℕ → List ℕ → Type 0
     Took [] cs ds = cs ≡ ds
-    Took (r ∷ rs) cs ds = (r ≡ row h K cs) × Took rs (drop (rowWidth K) cs) ds
+    Took (r ∷ rs) cs ds = (r ≡ row h (kindOf t L) cs) × Took rs (drop (rowWidth (kindOf t L)) cs) ds
 
     took-then : (rs qs : List (List Shown)) (cs ds es : List ℕ) → Took rs cs ds → Took qs ds es → Took (rs ++ qs) cs es
     took-then [] qs cs ds es a b = subst (λ (u : List ℕ). Took qs u es) (sym a) b
-    took-then (r ∷ rs) qs cs ds es a b = (a .0, took-then rs qs (drop (rowWidth K) cs) ds es (a .1) b)
+    took-then (r ∷ rs) qs cs ds es a b = (a .0, took-then rs qs (drop (rowWidth (kindOf t L)) cs) ds es (a .1) b)
 
     took-times : {A : Type 0} (d : Tables → A × Tables) (g : A → List (List Shown)) (N : ℕ) → ((st : Tables) → length (d st .1) ≡ length st) →
         ((st : Tables) → length st ≡ N → Took (g (d st .0)) (getD st t []) (getD (d st .1) t [])) → (n : ℕ) (st : Tables) → length st ≡ N → Took (flatten g (times n d st .0)) (getD st t []) (getD (times n d st .1) t [])
@@ -194,7 +183,7 @@ module _ (h : Telling) where
     took-times d g N k a (suc n) st e = took-then (g (d st .0)) _ _ _ _ (a st e) (took-times d g N k a n (d st .1) (k st ∙ e))
 
     module _ (N : ℕ) (low : t < N) where
-      took-item : (i : Shape) (u : ℕ) (st : Tables) → length st ≡ N → Free u i → (eqb t u ≡ true → i ≡ K) → (eqb t u ≡ false → Took (rowsHeld t i (told h i u st .0)) (getD st t []) (getD (told h i u st .1) t [])) →
+      took-item : (i : Shape) (u : ℕ) (st : Tables) → length st ≡ N → Free u i → (eqb t u ≡ true → i ≡ kindOf t L) → (eqb t u ≡ false → Took (rowsHeld t i (told h i u st .0)) (getD st t []) (getD (told h i u st .1) t [])) →
           Took (cond (eqb t u) (own i (told h i u st .0) ∷ []) (rowsHeld t i (told h i u st .0))) (getD st t []) (getD (told h i u st .1) t [])
       took-item i u st e f same rec = by-test (eqb t u) (λ d. rw d (here d (of-eq t u d))) (λ d. rw d (rec d))
         where
@@ -205,7 +194,7 @@ module _ (h : Telling) where
                 sym (ap (λ (n : ℕ). getD (told h i u st .1) n []) z ∙ own-left i u st a f ∙ ap (λ (n : ℕ). drop (rowWidth i) (getD st n [])) (sym z) ∙ ap (λ (k : Shape). drop (rowWidth k) (getD st t [])) (same d)),
               )
 
-      pub took : (l : Shape) (o : ℕ) (st : Tables) → length st ≡ N → eqb t o ≡ false → Tree l → Alike t K l → Took (rowsHeld t l (told h l o st .0)) (getD st t []) (getD (told h l o st .1) t [])
+      pub took : (l : Shape) (o : ℕ) (st : Tables) → length st ≡ N → eqb t o ≡ false → Tree l → Kinds L l → Took (rowsHeld t l (told h l o st .0)) (getD st t []) (getD (told h l o st .1) t [])
       unfolding told rowsHeld
       took end o st e a f k = refl
       took (field j r) o st e a f k = rw (pop-other t o (width j) st a) at (took r o (pop o (width j) st .1) (length-pop o (width j) st ∙ e) a f k)
@@ -216,16 +205,16 @@ module _ (h : Telling) where
           let b = length-pop o 1 st ∙ e in
           let g : Held i → List (List Shown) = λ y. cond (eqb t u) (own i y ∷ []) (rowsHeld t i y) in
           let X = times n (told h i u) S in
-          let p : Took (flatten g (X .0)) (getD S t []) (getD (X .1) t []) = took-times (told h i u) g N (length-told i u) (λ su c. took-item i u su c (f .0) (k .0) (λ d. took i u su c d (f .1) (k .1))) n S b in
+          let p : Took (flatten g (X .0)) (getD S t []) (getD (X .1) t []) = took-times (told h i u) g N (length-told i u) (λ su c. took-item i u su c (f .0) (kind-is t u L i (k .0)) (λ d. took i u su c d (f .1) (k .1))) n S b in
           took-then (flatten g (X .0)) (rowsHeld t r (told h r o (X .1) .0)) _ (getD (X .1) t []) _ (rw (pop-other t o 1 st a) at p)
           (took r o (X .1) (length-times (told h i u) (length-told i u) n S ∙ b) a (f .2) (k .2))
       took (lacking z u i r) o st e a f k = rw (pop-other t o 1 st a) at (took r o (pop o 1 st .1) (length-pop o 1 st ∙ e) a f k)
 
     -- so they are the first rows of the table
-    pub took-rows : (rs : List (List Shown)) (cs ds : List ℕ) → Took rs cs ds → rs ≡ map (row h K) (chunks (length rs) (rowWidth K) cs)
+    pub took-rows : (rs : List (List Shown)) (cs ds : List ℕ) → Took rs cs ds → rs ≡ map (row h (kindOf t L)) (chunks (length rs) (rowWidth (kindOf t L)) cs)
     unfolding chunks
     took-rows [] cs ds a = refl
-    took-rows (r ∷ rs) cs ds a = λ j. (a .0 ∙ sym (row-front K cs)) j ∷ took-rows rs (drop (rowWidth K) cs) ds (a .1) j
+    took-rows (r ∷ rs) cs ds a = λ j. (a .0 ∙ sym (row-front (kindOf t L) cs)) j ∷ took-rows rs (drop (rowWidth (kindOf t L)) cs) ds (a .1) j
 
 -- ---- the tables that a read fills
 
@@ -236,9 +225,6 @@ map-flatten f g (x ∷ xs) = map-append f (g x) (flatten g xs) ∙ ap (λ (ys : 
 flatten-map : {A B C : Type 0} (p : A → B) (g : B → List C) (q : A → List C) → ((x : A) → g (p x) ≡ q x) → (xs : List A) → flatten g (map p xs) ≡ flatten q xs
 flatten-map p g q e [] = refl
 flatten-map p g q e (x ∷ xs) = λ i. e x i ++ flatten-map p g q e xs i
-
-flatten-items : {A B C D : Type 0} (t : Bool) (m : A → B) (p : B → C) (g : C → List D) (q : A → List D) → ((x : A) → g (p (m x)) ≡ q x) → (xs : Maybe t (List A)) → flatten g (map p (listOf t (mapMaybe (map m) t xs))) ≡ flatten q (listOf t xs)
-flatten-items t m p g q e xs = rw (list-map m t xs, map-map p m (listOf t xs)) (flatten-map (λ x. p (m x)) g q e (listOf t xs))
 
 module _ (b : List ℕ) where
   own-of : (l : Shape) (x : Value Span l) → own l (ofValue l (mapValue (slice b) l x)) ≡ row (asIs b) l (rowCells l x)
@@ -255,22 +241,19 @@ module _ (b : List ℕ) where
   own-of (array z t j r) x = λ i. num (sym (map-cell (keeps z) (mapValue (slice b) j) (x .0)) i) ∷ own-of r (x .1) i
   own-of (lacking z t j r) x = λ i. num (sym (shown-lacking z) i) ∷ own-of r x i
 
-  module _ (t : ℕ) (K : Shape) where
-    rows-of : (l : Shape) (x : Value Span l) → Alike t K l → rowsHeld t l (ofValue l (mapValue (slice b) l x)) ≡ map (row (asIs b) K) (rowsIn t l x)
+  module _ (t : ℕ) (L : Shape) where
+    rows-of : (l : Shape) (x : Value Span l) → Kinds L l → rowsHeld t l (ofValue l (mapValue (slice b) l x)) ≡ map (row (asIs b) (kindOf t L)) (rowsIn t l x)
     unfolding rowsHeld rowsIn
     rows-of end x a = refl
     rows-of (field k r) x a = rows-of r (x .1) a
     rows-of (absent k r) x a = rows-of r x a
     rows-of (array z u j r) x a =
         let g : Value Span j → List (List ℕ) = λ y. cond (eqb t u) (rowCells j y ∷ []) (rowsIn t j y) in
-        let e = flatten-items (keeps z) (mapValue (slice b) j) (ofValue j) (λ y. cond (eqb t u) (own j y ∷ []) (rowsHeld t j y)) (λ y. map (row (asIs b) K) (g y)) (λ y. item y (rows-of j y (a .1)) (eqb t u) (a .0)) (x .0) in
-        (λ i. (e ∙ sym (map-flatten (row (asIs b) K) g (listOf (keeps z) (x .0)))) i ++ rows-of r (x .1) (a .2) i)
-        ∙ sym (map-append (row (asIs b) K) (flatten g (listOf (keeps z) (x .0))) (rowsIn t r (x .1)))
-      where
-        item : (y : Value Span j) → rowsHeld t j (ofValue j (mapValue (slice b) j y)) ≡ map (row (asIs b) K) (rowsIn t j y) → (c : Bool) → (c ≡ true → j ≡ K) →
-            cond c (own j (ofValue j (mapValue (slice b) j y)) ∷ []) (rowsHeld t j (ofValue j (mapValue (slice b) j y))) ≡ map (row (asIs b) K) (cond c (rowCells j y ∷ []) (rowsIn t j y))
-        item y rec true same = ap (λ (s : List Shown). s ∷ []) (own-of j y ∙ ap (λ (k : Shape). row (asIs b) k (rowCells j y)) (same refl))
-        item y rec false same = rec
+        let e : flatten (λ y. cond (eqb t u) (own j y ∷ []) (rowsHeld t j y)) (map (ofValue j) (listOf (keeps z) (mapMaybe (map (mapValue (slice b) j)) (keeps z) (x .0)))) ≡ flatten (λ y. map (row (asIs b) (kindOf t L)) (g y)) (listOf (keeps z) (x .0)) =
+        rw (list-map (mapValue (slice b) j) (keeps z) (x .0), map-map (ofValue j) (mapValue (slice b) j) (listOf (keeps z) (x .0))) (flatten-map _ _ _ (λ y. by-test (eqb t u)
+        (λ c. rw c (ap (λ (s : List Shown). s ∷ []) (own-of j y ∙ ap (λ (k : Shape). row (asIs b) k (rowCells j y)) (kind-is t u L j (a .0) c)))) (λ c. rw c (rows-of j y (a .1)))) (listOf (keeps z) (x .0))) in
+        (λ i. (e ∙ sym (map-flatten (row (asIs b) (kindOf t L)) g (listOf (keeps z) (x .0)))) i ++ rows-of r (x .1) (a .2) i)
+        ∙ sym (map-append (row (asIs b) (kindOf t L)) (flatten g (listOf (keeps z) (x .0))) (rowsIn t r (x .1)))
     rows-of (lacking z u j r) x a = rows-of r x a
 
 -- ---- the theorems, row by row, of a body msg that was written from the tables st and read into d .st
@@ -307,7 +290,7 @@ module _ (q : Bool) (l : Shape) (N : ℕ) (lent : List ℕ) (st : Tables) (msg :
         let i : d .st ≡ keep append l 0 x (replicate N []) = cc in
         let s = Parts.shown minus q l msg x n small eats (c .reads) in
         let g = ap (told (asIs msg) l 0) (i ∙ same-tables N l 0 x) ∙ holds msg N (λ t. t .0 + t .1 ≤ length msg) l 0 x first names (s .inside-it) .law (replicate N []) (length-replicate N []) in
-        ap (map (row (asIs msg) (kindOf t l))) a ∙ sym (rows-of msg t (kindOf t l) l x (alike t l l kinds)) ∙ ap (λ (y : Held l × Tables). rowsHeld t l (y .0)) (sym g)
+        ap (map (row (asIs msg) (kindOf t l))) a ∙ sym (rows-of msg t l l x kinds) ∙ ap (λ (y : Held l × Tables). rowsHeld t l (y .0)) (sym g)
 
     pub rows-settled : t < length st → map (shownRow msg K) back ≡ map (settledRow lent K) (chunks (length back) (rowWidth K) (getD st t []))
     unfolding shown settled
@@ -316,6 +299,6 @@ module _ (q : Bool) (l : Shape) (N : ℕ) (lent : List ℕ) (st : Tables) (msg :
         let rs = rowsHeld t l (told (asBack lent) l 0 st .0) in
         let a : map (row (asIs msg) K) back ≡ rs = rows-read ∙ ap (λ (x : Held l × Tables). rowsHeld t l (x .0)) e in
         let b : length back ≡ length rs = sym (length-map back (row (asIs msg) K)) ∙ ap length a in
-        let c = took-rows (asBack lent) t K rs _ _ (took (asBack lent) t K (length st) low l 0 st refl apart tree (alike t l l kinds)) in
+        let c = took-rows (asBack lent) t l rs _ _ (took (asBack lent) t l (length st) low l 0 st refl apart tree kinds) in
         map-congr-left {l = back} (λ r m. row-shown msg K r) ∙ a ∙ c ∙ ap (λ (k : ℕ). map (row (asBack lent) K) (chunks k (rowWidth K) (getD st t []))) (sym b)
         ∙ sym (map-congr-left {l = chunks (length back) (rowWidth K) (getD st t [])} (λ r m. row-settled lent K r))

@@ -8,7 +8,7 @@ use Prim.Native.Nat.{_%_, _*_, _+_, _-_, _/_, _<_, _^_, suc, zero, ℕ}
 use native.Mathlib.Nat.{add-suc, add-zero, pow-suc, suc-add, zero-add}
 use native.Mathlib.Numerals.{add-one}
 use native.Mathlib.Omega.{arith}
-use lib.Dec.{T, eqb, eqb→eq, ltb}
+use lib.Dec.{T, eqb, ltb}
 use lib.ListN.{drop, length, take}
 use lib.Seq.{length-take-le, take-add}
 use Rattle.layout.specs.Reading.{Reader, Res, bad, because, fail, give, here, many, more, ok, pair, pick, placed, primitive, raw, then}
@@ -257,11 +257,7 @@ same-list : (xs ys : List ℕ) → T (sameList xs ys) → xs ≡ ys
 same-list [] [] t = refl
 same-list [] (y ∷ ys) t = absurd t
 same-list (x ∷ xs) [] t = absurd t
-same-list (x ∷ xs) (y ∷ ys) t = go (same-list xs ys) (eqb x y) refl t
-  where
-    go : (T (sameList xs ys) → xs ≡ ys) → (b : Bool) → eqb x y ≡ b → T (cond b (sameList xs ys) false) → x ∷ xs ≡ y ∷ ys
-    go rec true e t = λ i. eqb→eq x y (subst T (sym e) tt) i ∷ rec t i
-    go rec false e t = absurd t
+same-list (x ∷ xs) (y ∷ ys) t = by-test (eqb x y) (λ e i. of-eq x y e i ∷ same-list xs ys (rw e at t) i) (λ e. absurd (rw e at t))
 
 abbrev pub exactly : {A : Type 0} → ℕ → (A → List ℕ) → ℕ → List ℕ → Res A → Res A
 exactly e₀ w p s (ok x n) = cond (sameList (w x) (take n s)) (ok x n) (bad (because e₀ p))
