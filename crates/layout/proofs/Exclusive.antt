@@ -49,33 +49,16 @@ shape1 = field (number w16) (array (fixed w32 empty) 1 oldKey (field throttle (l
 abbrev pub shape3 : Shape
 shape3 = field (number w16) (array (compact empty) 1 newKey (field throttle (array plain 2 tag end)))
 
--- ---- an array that may not be null
+-- ---- a count of four bytes that is not null
 
-record Items {A : Type 0} (len : Reader ℕ) (r : ℕ → Reader A) (p : ℕ) (s : List ℕ) (x : A) (m : ℕ) : Type 0 where
-  n : ℕ
-  a : ℕ
-  k : ℕ
-  count-is : len p s ≡ ok (n + 1) a
-  items : r n (p + a) (drop a s) ≡ ok x k
-  total : m ≡ a + k
-
-sized-inv : {A : Type 0} (e : ℕ) (len : Reader ℕ) (r : ℕ → Reader A) (p : ℕ) (s : List ℕ) (x : A) (m : ℕ) → sized false false e len r p s ≡ ok x m → Items len r p s x m
-unfolding sized
-sized-inv {A} e len r p s x m h =
-    let d = split (checked false e len) _ p s x m h in
-    let z : d .x ≢ 0 = of-ne _ _ (checked-some e len p s (d .x) (d .n) (d .first)) in
-    let q : d .x - 1 + 1 ≡ d .x = omega arith in
-    record { n = d .x - 1; a = d .n; k = d .k; count-is = rw q (checked-inv false e len p s (d .x) (d .n) (d .first)); items = d .second; total = d .sum }
-
--- a count of four bytes
-count-inv : (p : ℕ) (s : List ℕ) (n a : ℕ) → lengthOf unsigned (fixed w32 empty) p s ≡ ok (n + 1) a → Number 4 s n a
+count-inv : (p : ℕ) (s : List ℕ) (x a : ℕ) → lengthOf unsigned (fixed w32 empty) p s ≡ ok x a → x ≢ 0 → Number 4 s (x - 1) a
 unfolding lengthOf pick give fail
-count-inv p s n a h =
-    let b = split (int 4) _ p s (n + 1) a h in
+count-inv p s x a h some =
+    let b = split (int 4) _ p s x a h in
     let c = int-inv 4 p s (b .x) (b .n) (b .first) in
     by-test (ltb (b .x) 2147483648)
-    (λ d. let g : ok (b .x + 1) 0 ≡ ok (n + 1) (b .k) = rw d at (b .second) in let w : b .x + 1 ≡ n + 1 = cc in let v : 0 ≡ b .k = cc in record { fits = c .fits; is = omega (arith, c .is); used = omega (arith, b .sum, c .used) })
-    (λ d. by-test (eqb (b .x) 4294967295) (λ e. let g : ok 0 0 ≡ ok (n + 1) (b .k) = rw (d, e) at (b .second) in let w : 0 ≡ n + 1 = cc in absurd (omega arith)) (λ e. not-ok (rw (d, e) at (b .second))))
+    (λ d. let g : ok (b .x + 1) 0 ≡ ok x (b .k) = rw d at (b .second) in let w : b .x + 1 ≡ x = cc in let v : 0 ≡ b .k = cc in record { fits = c .fits; is = omega (arith, c .is); used = omega (arith, b .sum, c .used) })
+    (λ d. by-test (eqb (b .x) 4294967295) (λ e. let g : ok 0 0 ≡ ok x (b .k) = rw (d, e) at (b .second) in let w : x ≡ 0 = cc in absurd (some w)) (λ e. not-ok (rw (d, e) at (b .second))))
 
 -- ---- readers that always use as many bytes
 
@@ -129,11 +112,12 @@ abbrev keys : Reader (List (Value (List ℕ) oldKey))
 keys = sized false false 8 (lengthOf unsigned (fixed w32 empty)) (λ n. many n keyReader)
 
 counted : (p : ℕ) (s : List ℕ) (xs : List (Value (List ℕ) oldKey)) (m : ℕ) → keys p s ≡ ok xs m → (4 ≤ length s) × (m ≡ 4 + be 0 (take 4 s) * 6)
+unfolding sized
 counted p s xs m e =
-    let i = sized-inv 8 (lengthOf unsigned (fixed w32 empty)) _ p s xs m e in
-    let j = count-inv p s (i .n) (i .a) (i .count-is) in
-    let k = always-many _ 6 always-key (i .n) _ _ xs (i .k) (i .items) in
-    (j .fits, omega (arith, i .total, j .is, j .used))
+    let d = split (checked false 8 _) _ p s xs m e in
+    let j = count-inv p s (d .x) (d .n) (checked-inv false 8 _ p s (d .x) (d .n) (d .first)) (of-ne _ _ (checked-some 8 _ p s (d .x) (d .n) (d .first))) in
+    let k = always-many _ 6 always-key (d .x - 1) _ _ xs (d .k) (d .second) in
+    (j .fits, omega (arith, d .sum, j .is, j .used))
 
 -- what stands behind the items uses j bytes
 old : {A : Type 0} (q : Reader A) (j : ℕ) (s : List ℕ) (z : ℕ × (List (Value (List ℕ) oldKey) × A)) (m : ℕ) → Always q j → pair (cell w16) (pair keys q) 0 s ≡ ok z m →
@@ -167,14 +151,14 @@ small (a ∷ b ∷ c ∷ []) h g = absurd (omega arith)
 small (a ∷ b ∷ c ∷ d ∷ s) h g = let z : a ≡ 0 = omega arith in (b ∷ c ∷ d ∷ s, ap (λ (x : ℕ). x ∷ (b ∷ c ∷ d ∷ s)) z)
 
 not-3 : (s : List ℕ) (x : Value (List ℕ) shape3) (m : ℕ) (t : List ℕ) → drop 2 s ≡ 0 ∷ t → read (byBytes true) shape3 0 s ≡ ok x m → ⊥
-unfolding read readBasic lengthOf
+unfolding read readBasic lengthOf sized
 not-3 s x m t d h =
     let f = front-inv 2 (cell w16) _ 0 s x m (always-cell w16) h in
     let b = pair-inv _ _ 2 (drop 2 s) (x .1) _ (f .later) in
-    let i = sized-inv 8 unsigned _ 2 (drop 2 s) (x .1 .0) _ (b .first) in
-    let g : ok 0 1 ≡ ok (i .n + 1) (i .a) = sym (zero-is 2 t) ∙ ap (unsigned 2) (sym d) ∙ i .count-is in
-    let w : 0 ≡ i .n + 1 = cc in
-    omega arith
+    let i = split (checked false 8 unsigned) _ 2 (drop 2 s) (x .1 .0) _ (b .first) in
+    let g : ok 0 1 ≡ ok (i .x) (i .n) = sym (zero-is 2 t) ∙ ap (unsigned 2) (sym d) ∙ checked-inv false 8 unsigned 2 (drop 2 s) (i .x) (i .n) (i .first) in
+    let w : i .x ≡ 0 = cc in
+    of-ne _ _ (checked-some 8 unsigned 2 (drop 2 s) (i .x) (i .n) (i .first)) w
 
 -- ---- the theorem
 
