@@ -196,7 +196,9 @@ module _ (W : ℕ → ℕ) where
   rows-wide t (field k r) x h = rows-wide t r (x .1) h
   rows-wide t (absent k r) x h = rows-wide t r x h
   rows-wide t (array z u i r) x h =
-      all-append (Row t) (flatten (λ y. cond (eqb t u) (rowCells i y ∷ []) (rowsIn t i y)) (listOf (keeps z) (x .0))) (rowsIn t r (x .1)) (all-flatten (Row t) (λ y. cond (eqb t u) (rowCells i y ∷ []) (rowsIn t i y)) (λ y. by-test (eqb t u) (λ e. rw e (row-width i y ∙ sym (h .0) ∙ ap W (sym (of-eq t u e)), tt)) (λ e. rw e (rows-wide t i y (h .1)))) (listOf (keeps z) (x .0))) (rows-wide t r (x .1) (h .2))
+      let F : Value Span i → List (List ℕ) = λ y. cond (eqb t u) (rowCells i y ∷ []) (rowsIn t i y) in
+      let one : (y : Value Span i) → All (Row t) (F y) = λ y. by-test (eqb t u) (λ e. rw e (row-width i y ∙ sym (h .0) ∙ ap W (sym (of-eq t u e)), tt)) (λ e. rw e (rows-wide t i y (h .1))) in
+      all-append (Row t) (flatten F (listOf (keeps z) (x .0))) (rowsIn t r (x .1)) (all-flatten (Row t) F one (listOf (keeps z) (x .0))) (rows-wide t r (x .1) (h .2))
   rows-wide t (lacking z u i r) x h = rows-wide t r x h
 
 pub joined-length : (w : ℕ) (rs : List (List ℕ)) → All (λ r. length r ≡ w) rs → length (joined rs) ≡ length rs * w

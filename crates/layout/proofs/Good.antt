@@ -143,9 +143,10 @@ module _ (size : ℕ) where
     rows-good (field c r) x k z h = rows-good r (x .1) k z (h .1)
     rows-good (absent c r) x k z h = rows-good r x k z h
     rows-good (array s u i r) x k z h =
-        all-append Is (flatten (λ y. cond (eqb t u) (rowCells i y ∷ []) (rowsIn t i y)) (listOf (keeps s) (x .0))) (rowsIn t r (x .1))
-        (in-flatten Is (Every half InSize i) (λ y. cond (eqb t u) (rowCells i y ∷ []) (rowsIn t i y)) (λ y q. by-test (eqb t u)
-        (λ e. rw e (ap (λ (j : Shape). goodRow size j (rowCells i y)) (ap (λ (w : ℕ). kindOf w L) (of-eq t u e) ∙ k .0) ∙ good-row i y (z .0) q, tt)) (λ e. rw e (rows-good i y (k .1) (z .0) q))) (listOf (keeps s) (x .0)) (few-list half _ (keeps s) (x .0) (lit< tt) (h .0) .1)) (rows-good r (x .1) (k .2) (z .1) (h .1))
+        let F : Value Span i → List (List ℕ) = λ y. cond (eqb t u) (rowCells i y ∷ []) (rowsIn t i y) in
+        let one : (y : Value Span i) → Every half InSize i y → All Is (F y) =
+        λ y q. by-test (eqb t u) (λ e. rw e (ap (λ (j : Shape). goodRow size j (rowCells i y)) (ap (λ (w : ℕ). kindOf w L) (of-eq t u e) ∙ k .0) ∙ good-row i y (z .0) q, tt)) (λ e. rw e (rows-good i y (k .1) (z .0) q)) in
+        all-append Is (flatten F (listOf (keeps s) (x .0))) (rowsIn t r (x .1)) (in-flatten Is (Every half InSize i) F one (listOf (keeps s) (x .0)) (few-list half _ (keeps s) (x .0) (lit< tt) (h .0) .1)) (rows-good r (x .1) (k .2) (z .1) (h .1))
     rows-good (lacking s u i r) x k z h = rows-good r x k (z .1) h
 
 -- ---- the counts add up

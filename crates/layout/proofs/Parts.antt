@@ -92,10 +92,6 @@ unfolding sized checked
 hungry-sized true a e z r = hungry-then _ _ (hungry-primitive _ (hungry-then _ _ (hungry-length z)))
 hungry-sized false a e z r = hungry-then _ _ (hungry-primitive _ (hungry-then _ _ (hungry-length z)))
 
-hungry-cell : (w : Width) → Hungry (cell w)
-unfolding cell
-hungry-cell w = hungry-then _ _ (hungry-int (size w) (size-some w))
-
 -- a field or an array stands in l
 abbrev pub Eats : Shape → Type 0
 Eats end = ⊥
@@ -106,10 +102,10 @@ Eats (lacking z t i r) = Eats r
 
 module _ (q : Bool) where
   hungry-basic : (k : Basic) → Hungry (readBasic (byPlace q) k)
-  unfolding readBasic flag
-  hungry-basic (number w) = hungry-cell w
+  unfolding readBasic flag cell
+  hungry-basic (number w) = hungry-then _ _ (hungry-int (size w) (size-some w))
   hungry-basic boolean = hungry-then _ _ (hungry-int 1 (omega arith))
-  hungry-basic level = hungry-cell w8
+  hungry-basic level = hungry-then _ _ (hungry-int 1 (omega arith))
   hungry-basic natural = hungry-unsigned
   hungry-basic (text z) = hungry-primitive _ (hungry-sized (keeps z) _ _ z _)
   hungry-basic (blob z) = hungry-primitive _ (hungry-sized (keeps z) _ _ z _)
