@@ -1,6 +1,5 @@
 -- the first row of a key, the highest common version, and the three rows, as the code finds them
 pub mod FirstRow
 pub mod Highest
-pub mod ThreeRows
 -- what agreement promises, in the words of the rules
 pub mod Choices

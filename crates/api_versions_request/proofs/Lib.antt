@@ -1,5 +1,4 @@
 -- a request into its row and table, and the whole reply of a read
-pub mod Rows
 pub mod Replies
 -- a request that is written, part by part
 pub mod Request

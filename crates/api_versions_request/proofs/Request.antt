@@ -2,22 +2,22 @@
 use mathlib.Core.Bool.{Bool, _&&_, and-true, cond, false, true}
 use mathlib.Core.List.{List, [], _++_, _∷_, append-nil}
 use mathlib.Core.Path.{_∙_, _≡_, ap, refl, sym}
-use Prim.Native.Nat.{_+_, _-_, _/_, _<_, _^_, _≤_, min, suc, zero, ℕ}
+use Prim.Native.Nat.{_+_, _-_, _/_, _<_, _^_, _≤_, min, ℕ}
 use native.Mathlib.Nat.{add-zero}
 use native.Mathlib.Omega.{arith}
 use lib.Dec.{eqb, leb, lit<, lit≤}
 use lib.IntN.{ℤ}
-use lib.ListN.{drop, length, length-drop, length-take}
+use lib.ListN.{length}
 use borrow.Rule.Slice.PartMut.{midOf, putMid}
 use Rattle.layout.specs.Answers.{Answer, shape, writeAlone, writeAnswer}
 use Rattle.layout.specs.Messages.ApiVersions.{request, requestRows}
+use Rattle.primitives.proofs.Versions.{up-to}
 use Rattle.layout.specs.Primitives.{plain, sizedBytes}
 use Rattle.layout.specs.Rows.{absent, at, blob, end, natural, standing, stands, tagRows}
 use Rattle.layout.specs.Tables.{Tables, arrays, asked, basicOf, chosen, count, good, goodCells, goodCount, goodRow, goodSpan, inside, kindIn, kindOf, pop, rowWidth, slice, spanOf, valueOf, width}
 use Rattle.layout.specs.Utf8.{utf8}
 use Rattle.layout.specs.Write.{basicFault, fault, or, sizedFault, tooLong, unless, write, writeBasic}
 use Rattle.layout.proofs.Proper.{both}
-use Rattle.layout.proofs.Tests.{lt-true}
 use Rattle.primitives_put.specs.Step.{Capped, cap}
 use Rattle.body_reading.specs.Tagged.{tagShape, tagsShape}
 use Rattle.body_writing.specs.Writes.{bytesAt, countedBytes, faultAt, refusalOf}
@@ -29,7 +29,7 @@ use Rattle.primitives_put.specs.declared.Form.{Form}
 use Rattle.primitives_put.specs.Put.{Put, behindLength, sizeOf}
 use Rattle.primitives_put.proofs.Stored.{put-step}
 use Rattle.body_writing.specs.Asked.{allRanged}
-use Rattle.body_writing.proofs.Cells.{Cells}
+use Rattle.body_writing.proofs.Counts.{Cells}
 use Rattle.body_writing.proofs.Lent.{good-one}
 use Rattle.tagged_fields.proofs.Tags as Tags
 use Rattle.body_writing.proofs.Called.{called}
@@ -39,11 +39,7 @@ use Rattle.api_versions_request.specs.Shapes.{requestShape, textField, t
 
 is-shape : (v : ℕ) → v ≤ 3 → shape request v ≡ requestShape (leb 3 v)
 unfolding shape at stands standing tagRows requestRows
-is-shape zero h = refl
-is-shape (suc zero) h = refl
-is-shape (suc (suc zero)) h = refl
-is-shape (suc (suc (suc zero))) h = refl
-is-shape (suc (suc (suc (suc v)))) h = absurd (omega arith)
+is-shape = up-to 3 (λ v. shape request v ≡ requestShape (leb 3 v)) (refl, (refl, (refl, refl)))
 
 -- ---- a text that is unset, and one that is there
 

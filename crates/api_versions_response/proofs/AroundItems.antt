@@ -17,7 +17,7 @@ use Rattle.body_reading.specs.Store.{State, Tab, add, own, put, store, tab}
 use Rattle.body_reading.specs.Walk.{Places, Runs, on, rowFrom, walk}
 use Rattle.body_reading.proofs.Arrays.{items-no, items-no-count, items-took}
 use Rattle.body_reading.proofs.Front.{then-give}
-use Rattle.body_reading.proofs.Chains.{give-took, then-no, then-took}
+use Rattle.body_reading.proofs.Chains.{then-no, then-took}
 use Rattle.tagged_fields.specs.Read as Tags
 use Rattle.body_reading.specs.Cells.{ofVersionedAt, versionedCells}
 use Rattle.body_reading.specs.declared.versioned.VersionedAt.{VersionedAt}

@@ -13,9 +13,9 @@ use Rattle.body_writing.specs.Writes.{rowFault, rowsFault}
 use Rattle.layout.proofs.Chunks.{row-cell}
 use Rattle.body_writing.proofs.Faults.{none-is, only}
 use Rattle.primitives_put.specs.Answers.{within}
-use Rattle.body_writing.proofs.Cells.{Cells}
+use Rattle.body_writing.proofs.Counts.{Cells}
+use Rattle.body_writing.proofs.Even.{numbers-fault}
 use Rattle.api_versions_response.specs.ItemShapes.{keyFront}
-use Rattle.api_versions_response.proofs.ItemsWritten.{key-fault}
 use Rattle.api_versions_response.proofs.Whole.{untagged, untagged-fault}
 
 pub is-held : (n : ℕ) → within 32768 n ≡ holds w16 n
@@ -28,7 +28,7 @@ abbrev pub clean : List ℕ → Bool
 clean r = eqb (rowFault [] keyFront r) 0
 
 pub is-clean : (r : List ℕ) → clean r ≡ (holds w16 (getD r 0 0) && (holds w16 (getD r 1 0) && holds w16 (getD r 2 0)))
-is-clean r = ap (λ (n : ℕ). eqb n 0) (key-fault [] r) ∙ none-is _ 10
+is-clean r = ap (λ (n : ℕ). eqb n 0) (numbers-fault [] w16 w16 w16 r) ∙ none-is _ 10
 
 -- as the table has them
 pub row-told : (items : List ℕ) (i : ℕ) → i < length items / 4 → (b : Bool) → b ≡ clean (getD items (i * 4) 0 ∷ getD items (i * 4 + 1) 0 ∷ getD items (i * 4 + 2) 0 ∷ []) → b ≡ clean (getD (rowsOf 4 items) i [])

@@ -16,7 +16,7 @@ use Rattle.layout.proofs.Proper.{both}
 use Rattle.layout.proofs.Sums.{sum-eq, sum-zero}
 use Rattle.layout.proofs.Tests.{of-eq, of-lt}
 use Rattle.layout.proofs.Chunks.{rows-many}
-use Rattle.body_writing.proofs.Judged.{all-eq}
+use Rattle.body_writing.proofs.Judged.{all-eq, always}
 use Rattle.body_writing.specs.Asked.{allRanged, ranged, tells, told, toldGood}
 use Rattle.body_writing.proofs.Counts.{count-good, few-good, few-told, same-test}
 use Rattle.tagged_fields.proofs.Tags.{tag-good}
@@ -36,10 +36,6 @@ module _ (size c own : ℕ) (items tags : List ℕ) where
   item-told : (r : List ℕ) → count (getD (drop 1 (drop 1 (drop 1 r))) 0 0) + 0 ≡ told 3 r
   unfolding told
   item-told r = add-zero _ ∙ ap count (getD-drop 1 (drop 1 (drop 1 r)) 0 0 ∙ getD-drop 1 (drop 1 r) 1 0 ∙ getD-drop 1 r 2 0)
-
-  always : (b : Bool) → cond b true true ≡ true
-  always true = refl
-  always false = refl
 
   fewer : (x z u v p q : Bool) → ((x && (true && (z && true))) && ((u && (v && true)) && (p && (q && true)))) ≡ ((x && z) && ((u && v) && (p && q)))
   fewer x z u v p q = rw (and-true z, and-true v, and-true q)

@@ -1,5 +1,5 @@
 -- An item of a response, the first row of `items` with the first rows of `tags`: what it takes of the tables, its bytes, its first fault, and the loop over items.
-use mathlib.Core.Bool.{Bool, _&&_, cond, false, true}
+use mathlib.Core.Bool.{Bool, cond, false, true}
 use mathlib.Core.List.{List, [], _++_, _∷_, append-nil}
 use mathlib.Core.Path.{_∙_, _≡_, ap, ap₂, refl, sym}
 use Prim.Native.Nat.{_*_, _+_, _-_, _/_, _<_, _^_, _≤_, min, suc, zero, ℕ}
@@ -8,23 +8,23 @@ use lib.Dec.{lit<}
 use lib.ListN.{drop, getD, length, take}
 use lib.Seq.{getD-drop, getD-take}
 use borrow.Rule.Slice.PartMut.{midOf, putMid}
-use Rattle.layout.specs.Primitives.{bytes, holds, plain, w16}
+use Rattle.layout.specs.Primitives.{bytes, plain, w16}
 use Rattle.layout.specs.Rows.{Value}
 use Rattle.layout.specs.Tables.{Tables, basicOf, chunks, count, pop, rowWidth, rowsOf, sum, times, valueOf, width}
-use Rattle.layout.specs.Write.{basicFault, fault, firstOf, or, unless, write, writeBasic}
+use Rattle.layout.specs.Write.{basicFault, fault, firstOf, or, write}
 use Rattle.primitives_put.specs.Step.{Capped, cap}
 use Rattle.body_reading.specs.Tagged.{tagShape, tagsShape}
 use Rattle.body_writing.specs.Writes.{bytesAt, countedBytes, faultAt, itemsBytes, itemsFault, rowBytes, rowFault, takes}
 use Rattle.primitives_put.proofs.Capped.{capped, capped-as, capped-behind}
-use Rattle.body_writing.proofs.Faults.{or-none, or-three}
+use Rattle.body_writing.proofs.Faults.{or-none}
 use Rattle.body_writing.proofs.Nested.{Nest, one, row-bytes}
 use Rattle.body_writing.proofs.Taking.{Taking, sum-cells, taking-end, taking-enough, taking-more, taking-start}
 use Rattle.body_writing.proofs.Writes.{flat-bytes, flat-fault, flat-value, joined-fault}
 use Rattle.primitives_put.specs.Put.{Put}
 use Rattle.primitives_put.proofs.Stored.{put-step}
 use Rattle.body_writing.specs.Asked.{told}
-use Rattle.body_writing.proofs.Cells.{Cells, cells-drop}
-use Rattle.body_writing.proofs.Counts.{count-most}
+use Rattle.body_writing.proofs.Counts.{Cells, cells-drop, count-most}
+use Rattle.body_writing.proofs.Even.{numbers-bytes}
 use Rattle.tagged_fields.proofs.Tags.{tag-wide, tags-clean}
 use Rattle.api_versions_response.specs.Shapes.{itemShape}
 use Rattle.api_versions_response.specs.ItemShapes.{keyFront}
@@ -59,23 +59,6 @@ cells-most false c = omega arith
 -- ---- key and versions
 
 module _ (lent : List ℕ) where
-  three : (a b c : ℕ) → bytes 2 a ++ (bytes 2 b ++ (bytes 2 c ++ [])) ≡ bytes 2 a ++ (bytes 2 b ++ bytes 2 c)
-  three a b c = ap (λ (x : List ℕ). bytes 2 a ++ (bytes 2 b ++ x)) (append-nil (bytes 2 c))
-
-  pub key-bytes : (r : List ℕ) → rowBytes lent keyFront r ≡ bytes 2 (getD r 0 0) ++ (bytes 2 (getD r 1 0) ++ bytes 2 (getD r 2 0))
-  unfolding rowBytes bytesAt write writeBasic valueOf pop width basicOf
-  key-bytes [] = three 0 0 0
-  key-bytes (a ∷ []) = three a 0 0
-  key-bytes (a ∷ b ∷ []) = three a b 0
-  key-bytes (a ∷ b ∷ c ∷ r) = three a b c
-
-  pub key-fault : (r : List ℕ) → rowFault lent keyFront r ≡ unless (holds w16 (getD r 0 0) && (holds w16 (getD r 1 0) && holds w16 (getD r 2 0))) 11
-  unfolding rowFault faultAt fault basicFault valueOf pop width basicOf
-  key-fault [] = or-three (holds w16 0) (holds w16 0) (holds w16 0) 10
-  key-fault (a ∷ []) = or-three (holds w16 a) (holds w16 0) (holds w16 0) 10
-  key-fault (a ∷ b ∷ []) = or-three (holds w16 a) (holds w16 b) (holds w16 0) 10
-  key-fault (a ∷ b ∷ c ∷ r) = or-three (holds w16 a) (holds w16 b) (holds w16 c) 10
-
   key-first : (r : List ℕ) → rowFault lent keyFront r ≡ rowFault [] keyFront (take 4 r)
   unfolding rowFault faultAt fault basicFault valueOf pop width basicOf
   key-first [] = refl
@@ -169,11 +152,11 @@ module _ (lent : List ℕ) where
 
 -- the same key and versions, whatever else the row has
 pub key-same : (lent r : List ℕ) → rowBytes [] keyFront (getD r 0 0 ∷ getD r 1 0 ∷ getD r 2 0 ∷ []) ≡ rowBytes lent keyFront r
-key-same lent r = key-bytes [] (getD r 0 0 ∷ getD r 1 0 ∷ getD r 2 0 ∷ []) ∙ sym (key-bytes lent r)
+key-same lent r = numbers-bytes [] w16 w16 w16 (getD r 0 0 ∷ getD r 1 0 ∷ getD r 2 0 ∷ []) ∙ sym (numbers-bytes lent w16 w16 w16 r)
 
 module _ {d d₁ e : List ℕ} {n m : ℕ} (at : ℕ) (h : at ≡ min n (length d₁)) (r : ℕ) (k : cap r ≡ cap (n + m)) where
   pub key-put : (a b c : ℕ) → Put (bytes 2 a) d n d₁ → Capped (bytes 2 b ++ bytes 2 c) (midOf at (length d₁ - at) d₁) m e → Capped (rowBytes [] keyFront (a ∷ b ∷ c ∷ [])) d r (putMid at (length d₁ - at) d₁ e)
-  key-put a b c p q = capped-as (sym (key-bytes [] (a ∷ b ∷ c ∷ []))) (capped-behind (capped (put-step p)) at h q r k)
+  key-put a b c p q = capped-as (sym (numbers-bytes [] w16 w16 w16 (a ∷ b ∷ c ∷ []))) (capped-behind (capped (put-step p)) at h q r k)
 
   pub item-put : (f : Bool) (lent items tags : List ℕ) → count (getD items 3 0) * 3 ≤ length tags → (j : ℕ) → j ≡ itemCells f items → Capped (rowBytes [] keyFront (getD items 0 0 ∷ getD items 1 0 ∷ getD items 2 0 ∷ [])) d n d₁ →
       Capped (cond f (countedBytes lent tagShape plain 3 (take j tags)) []) (midOf at (length d₁ - at) d₁) m e → Capped (bytesAt lent (itemShape f) 1 ([] ∷ items ∷ tags ∷ [])) d r (putMid at (length d₁ - at) d₁ e)

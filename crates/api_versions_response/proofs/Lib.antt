@@ -1,5 +1,4 @@
 -- read: an item into the tables, and one without tags
-pub mod ItemRows
 pub mod BareRows
 -- read: throttle time, the body's own tags, and the whole body
 pub mod AroundItems

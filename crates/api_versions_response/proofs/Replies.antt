@@ -3,7 +3,7 @@ use mathlib.Core.Bool.{Bool, _&&_, false, true}
 use mathlib.Core.List.{List, [], _++_, _∷_}
 use mathlib.Core.Option.{none, some}
 use mathlib.Core.Path.{_∙_, _≡_, ap, refl, subst, sym}
-use Prim.Native.Nat.{_/_, _<_, _≤_, suc, zero, ℕ}
+use Prim.Native.Nat.{_/_, _<_, _≤_, ℕ}
 use native.Mathlib.Omega.{arith}
 use lib.Dec.{leb, ltb}
 use lib.IntN.{pos, ℤ}
@@ -19,7 +19,7 @@ use Rattle.layout.proofs.Proper.{api-response}
 use Rattle.layout.proofs.Tests.{le-false, le-true, of-lt}
 use Rattle.primitives.specs.Answers.{noRoom, ofRefusal, versionOf}
 use Rattle.primitives.specs.declared.Refusal as Code
-use Rattle.primitives.proofs.Versions.{known}
+use Rattle.primitives.proofs.Versions.{known, up-to}
 use Rattle.body_reading.specs.Meter.{short}
 use Rattle.body_reading.specs.Store.{State, own, tab}
 use Rattle.body_reading.specs.Walk.{on, walk}
@@ -40,18 +40,14 @@ is-slim : slim Api.response ≡ true
 unfolding slim all from lean taken rowWidth width shape at stands standing tagRows Api.keyRows Api.responseRows
 is-slim = refl
 
-row-widths : widths Api.response ≡ 4 ∷ 3 ∷ []
+pub row-widths : widths Api.response ≡ 4 ∷ 3 ∷ []
 unfolding widths from kindOf kindIn arrays rowWidth width shape at stands standing tagRows Api.keyRows Api.responseRows
 row-widths = refl
 
 -- the layout of a version, by what sets it apart
 pub shape-is : (v : ℕ) → v ≤ 3 → shape Api.response v ≡ responseShape (leb 1 v) (leb 3 v)
 unfolding shape at stands standing tagRows Api.keyRows Api.responseRows
-shape-is zero h = refl
-shape-is (suc zero) h = refl
-shape-is (suc (suc zero)) h = refl
-shape-is (suc (suc (suc zero))) h = refl
-shape-is (suc (suc (suc (suc v)))) h = absurd (omega arith)
+shape-is = up-to 3 (λ v. shape Api.response v ≡ responseShape (leb 1 v) (leb 3 v)) (refl, (refl, (refl, refl)))
 
 module _ (i t a b : ℕ) where
   short-items : a / 4 < i / 4 → short (widths Api.response) (i ∷ t ∷ []) (a ∷ b ∷ []) ≡ some (i / 4)

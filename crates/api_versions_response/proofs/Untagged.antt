@@ -9,10 +9,9 @@ use lib.Dec.{lit<}
 use lib.ListN.{drop, getD, length, length-append, take}
 use lib.Seq.{getD-take}
 use borrow.Rule.Slice.PartMut.{midOf, putMid}
-use Rattle.layout.specs.Primitives.{bytes, lengthBytes, plain, shortest, sizedBytes, unsignedBytes}
+use Rattle.layout.specs.Primitives.{bytes, lengthBytes, plain, shortest, sizedBytes, unsignedBytes, w16}
 use Rattle.layout.specs.Tables.{chunks, count, itemsOf, pop, rowsOf, sum, times, valueOf, width}
 use Rattle.layout.specs.Write.{each, write}
-use Rattle.layout.proofs.Back.{length-bytes}
 use Rattle.primitives_put.specs.Step.{Capped, cap}
 use Rattle.body_reading.specs.Tagged.{tagShape, tagsShape}
 use Rattle.body_writing.specs.Writes.{bytesAt, countedBytes, itemsBytes, rowBytes, rowsBytes}
@@ -20,12 +19,12 @@ use Rattle.primitives_put.proofs.Capped.{capped, capped-as, capped-behind}
 use Rattle.layout.proofs.Chunks.{row-cell}
 use Rattle.body_writing.proofs.Writes.{joined-bytes}
 use Rattle.primitives_put.specs.Put.{Put}
-use Rattle.body_writing.proofs.Even.{rows-wide}
+use Rattle.body_writing.proofs.Even.{numbers-bytes, numbers-wide, rows-wide}
 use Rattle.primitives_put.proofs.Stored.{put-step}
 use Rattle.body_writing.specs.Asked.{told}
 use Rattle.api_versions_response.specs.Shapes.{itemShape}
 use Rattle.api_versions_response.specs.ItemShapes.{keyFront}
-use Rattle.api_versions_response.proofs.ItemsWritten.{cells-most, item-bytes, item-value, itemCells, key-bytes}
+use Rattle.api_versions_response.proofs.ItemsWritten.{cells-most, item-bytes, item-value, itemCells}
 
 -- no count is the count of none
 count-none : (f : Bool) (r : List ℕ) → bytesAt [] (tagsShape f 2) 0 (valueOf [] keyFront 0 (take 3 r ∷ []) .1) ≡ cond f (0 ∷ []) []
@@ -46,7 +45,7 @@ unfolding rowBytes
 untagged-bytes f r =
     joined-bytes [] (tagsShape f 2) 0 keyFront (take 3 r ∷ [])
     ∙ ap₂ (λ (x y : List ℕ). x ++ y)
-    (key-bytes [] (take 3 r) ∙ (λ t. bytes 2 (getD-take 3 r 0 0 (lit< tt) t) ++ (bytes 2 (getD-take 3 r 1 0 (lit< tt) t) ++ bytes 2 (getD-take 3 r 2 0 (lit< tt) t))) ∙ sym (key-bytes [] r))
+    (numbers-bytes [] w16 w16 w16 (take 3 r) ∙ (λ t. bytes 2 (getD-take 3 r 0 0 (lit< tt) t) ++ (bytes 2 (getD-take 3 r 1 0 (lit< tt) t) ++ bytes 2 (getD-take 3 r 2 0 (lit< tt) t))) ∙ sym (numbers-bytes [] w16 w16 w16 r))
     (count-none f r)
 
 pub none-there : (f : Bool) → f ≡ true → {d d′ : List ℕ} {r : ℕ} → Put (bytes 1 0) d r d′ → Capped (cond f (0 ∷ []) []) d r d′
@@ -59,9 +58,9 @@ pub untagged-put : (f : Bool) (table : List ℕ) (i : ℕ) → i < length table 
 untagged-put f table i l at h r k p q =
     capped-as (sym (untagged-bytes f (getD (rowsOf 4 table) i []))) (capped-behind
     (capped-as
-    (key-bytes [] (getD table (i * 4) 0 ∷ getD table (i * 4 + 1) 0 ∷ getD table (i * 4 + 2) 0 ∷ [])
+    (numbers-bytes [] w16 w16 w16 (getD table (i * 4) 0 ∷ getD table (i * 4 + 1) 0 ∷ getD table (i * 4 + 2) 0 ∷ [])
     ∙ sym (λ t. bytes 2 ((row-cell 4 table i l 0 (lit< tt) ∙ ap (λ (j : ℕ). getD table j 0) (add-zero (i * 4))) t) ++ (bytes 2 (row-cell 4 table i l 1 (lit< tt) t) ++ bytes 2 (row-cell 4 table i l 2 (lit< tt) t)))
-    ∙ sym (key-bytes [] (getD (rowsOf 4 table) i [])))
+    ∙ sym (numbers-bytes [] w16 w16 w16 (getD (rowsOf 4 table) i [])))
     p)
     at h q r k)
 
@@ -71,14 +70,8 @@ none-wide : (f : Bool) → 6 + length {A = ℕ} (cond f (0 ∷ []) []) ≡ cond 
 none-wide true = refl
 none-wide false = refl
 
-key-wide : (r : List ℕ) → length (rowBytes [] keyFront r) ≡ 6
-key-wide r =
-    ap length (key-bytes [] r)
-    ∙ length-append (bytes 2 (getD r 0 0)) (bytes 2 (getD r 1 0) ++ bytes 2 (getD r 2 0))
-    ∙ omega (arith, length-append (bytes 2 (getD r 1 0)) (bytes 2 (getD r 2 0)), length-bytes 2 (getD r 0 0), length-bytes 2 (getD r 1 0), length-bytes 2 (getD r 2 0))
-
 untagged-wide : (f : Bool) (r : List ℕ) → length (untaggedBytes f r) ≡ cond f 7 6
-untagged-wide f r = ap length (untagged-bytes f r) ∙ length-append (rowBytes [] keyFront r) (cond f (0 ∷ []) []) ∙ ap (λ (n : ℕ). n + length {A = ℕ} (cond f (0 ∷ []) [])) (key-wide r) ∙ none-wide f
+untagged-wide f r = ap length (untagged-bytes f r) ∙ length-append (rowBytes [] keyFront r) (cond f (0 ∷ []) []) ∙ ap (λ (n : ℕ). n + length {A = ℕ} (cond f (0 ∷ []) [])) (numbers-wide [] w16 w16 w16 r) ∙ none-wide f
 
 -- k is told to be the width
 module _ (f : Bool) {k : ℕ} (e : k ≡ cond f 7 6) where
@@ -122,7 +115,7 @@ module _ (f : Bool) (lent tags : List ℕ) where
   first-bytes items h =
       item-bytes lent f items tags (omega (arith, h))
       ∙ ap₂ (λ (x y : List ℕ). x ++ y)
-      (key-bytes lent items ∙ sym (λ t. bytes 2 (getD-take 4 items 0 0 (lit< tt) t) ++ (bytes 2 (getD-take 4 items 1 0 (lit< tt) t) ++ bytes 2 (getD-take 4 items 2 0 (lit< tt) t))) ∙ sym (key-bytes [] (take 4 items)))
+      (numbers-bytes lent w16 w16 w16 items ∙ sym (λ t. bytes 2 (getD-take 4 items 0 0 (lit< tt) t) ++ (bytes 2 (getD-take 4 items 1 0 (lit< tt) t) ++ bytes 2 (getD-take 4 items 2 0 (lit< tt) t))) ∙ sym (numbers-bytes [] w16 w16 w16 (take 4 items)))
       (ap (λ (k : ℕ). cond f (countedBytes lent tagShape plain 3 (take k tags)) []) h ∙ none-bytes f lent)
       ∙ sym (untagged-bytes f (take 4 items))
 

@@ -4,7 +4,7 @@ use mathlib.Core.List.{List, [], _++_, _∷_, append-nil}
 use mathlib.Core.Path.{_∙_, _≡_, ap, ap₂, refl, sym}
 use Prim.Native.Nat.{_*_, _+_, _-_, _/_, _<_, _^_, _≤_, min, ℕ}
 use native.Mathlib.Omega.{arith}
-use lib.Dec.{eqb, leb, lit<, lit≤, ltb}
+use lib.Dec.{eqb, leb, lit<, lit≤}
 use lib.IntN.{ℤ}
 use lib.ListN.{drop, getD, length, length-drop, take}
 use lib.Seq.{getD-take, take-all}
@@ -19,9 +19,8 @@ use Rattle.layout.specs.Write.{basicFault, each, fault, firstOf, or, tooLong, u
 use Rattle.primitives_put.specs.Step.{Capped, cap}
 use Rattle.body_reading.specs.Tagged.{tagShape, tagsShape}
 use Rattle.body_writing.specs.Writes.{bytesAt, countedBytes, faultAt, itemsBytes, refusalOf, rowBytes, rowFault, rowsFault}
-use Rattle.primitives_put.proofs.Capped.{capped, capped-as, capped-behind}
+use Rattle.primitives_put.proofs.Capped.{capped, capped-as, capped-behind, step-nothing}
 use Rattle.body_writing.proofs.Faults.{or-none, or-unless, rows-only}
-use Rattle.primitives_put.proofs.Step.{step-nothing}
 use Rattle.body_writing.proofs.Taking.{own-apart, sum-cells, taken-state}
 use Rattle.body_writing.proofs.Writes.{any-bytes, any-fault, joined-bytes, joined-fault}
 use Rattle.primitives.specs.Answers.{versionOf}
@@ -29,17 +28,17 @@ use Rattle.primitives_put.specs.declared.Form.{Form}
 use Rattle.primitives_put.specs.Put.{Put, sizeOf}
 use Rattle.primitives_put.proofs.Stored.{put-step}
 use Rattle.body_writing.specs.Asked.{told}
-use Rattle.body_writing.proofs.Cells.{Cells, cells-drop}
-use Rattle.body_writing.proofs.Counts.{few-told}
+use Rattle.body_writing.proofs.Counts.{Cells, cells-drop, few-told}
 use Rattle.tagged_fields.proofs.Tags.{tags-bytes, tags-clean}
 use Rattle.body_reading.specs.Cells.{given, versionedCells}
 use Rattle.body_reading.specs.declared.versioned.Versioned.{Versioned}
 use Rattle.body_writing.proofs.Called.{called}
+use Rattle.body_writing.proofs.Even.{numbers-fault}
 use Rattle.api_versions_response.proofs.Replies.{shape-is}
 use Rattle.api_versions_response.specs.Shapes.{itemShape, responseShape, throttleShape}
 use Rattle.api_versions_response.specs.ItemShapes.{keyFront}
 use Rattle.api_versions_response.proofs.Good.{good-items, good-own, good-tags, is-good, judged}
-use Rattle.api_versions_response.proofs.ItemsWritten.{item-value, itemCells, items-fault, key-fault}
+use Rattle.api_versions_response.proofs.ItemsWritten.{item-value, itemCells, items-fault}
 
 -- the cells of tags that the items take
 abbrev cellsOf : Bool → List (List ℕ) → ℕ
@@ -202,7 +201,7 @@ module _ (t : Bool) (error n : ℕ) (items : List ℕ) (h : Cells items) (s : le
   pub untagged-fault : untagged ≡ unless (holds w16 error && (cond t (holds w32 n) true && eqb (rowsFault [] keyFront 4 items) 0)) 11
   untagged-fault =
       untagged-parts
-      ∙ ap (or (unless (holds w16 error) 11)) (ap (λ (x : ℕ). or x (unless (cond t (holds w32 n) true) 11)) (rows-only [] keyFront 4 items _ 10 (key-fault [])) ∙ or-unless _ _ 10 ∙ ap (λ (b : Bool). unless b 11) (and-comm (eqb (rowsFault [] keyFront 4 items) 0) (cond t (holds w32 n) true)))
+      ∙ ap (or (unless (holds w16 error) 11)) (ap (λ (x : ℕ). or x (unless (cond t (holds w32 n) true) 11)) (rows-only [] keyFront 4 items _ 10 (numbers-fault [] w16 w16 w16)) ∙ or-unless _ _ 10 ∙ ap (λ (b : Bool). unless b 11) (and-comm (eqb (rowsFault [] keyFront 4 items) 0) (cond t (holds w32 n) true)))
       ∙ or-unless (holds w16 error) (cond t (holds w32 n) true && eqb (rowsFault [] keyFront 4 items) 0) 10
 
   pub fault-told : (lent : List ℕ) (f : Bool) (c own : ℕ) (tags : List ℕ) → length lent < 2 ^ 64 → Cells tags → {e : ℕ} → e ≡ cond (judged (length lent) c own items tags) untagged 13 → e ≡ refusalOf lent 2 (responseShape false false) (responseShape t f) ((error ∷ c ∷ 2 ∷ n ∷ own ∷ []) ∷ items ∷ tags ∷ [])

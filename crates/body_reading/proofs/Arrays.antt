@@ -2,8 +2,7 @@
 use mathlib.Core.Bool.{Bool, false}
 use mathlib.Core.List.{List, [], _∷_}
 use mathlib.Core.Path.{_∙_, _≡_, ap, refl, sym}
-use Prim.Native.Nat.{_+_, _-_, ℕ}
-use native.Mathlib.Nat.{add-zero}
+use Prim.Native.Nat.{_-_, ℕ}
 use lib.ListN.{drop}
 use Rattle.layout.specs.Reading.{Reader, Refusal, Res, bad, give, loop, more, next, ok, then}
 use Rattle.layout.specs.Primitives.{Size, admits, checked, keeps, lengthOf, refusal, unsigned}
@@ -12,7 +11,7 @@ use Rattle.layout.specs.Tables.{countCell, readRows}
 use Rattle.layout.proofs.Local.{not-ok}
 use Rattle.body_reading.specs.Store.{State, add}
 use Rattle.body_reading.specs.Walk.{itemCount, on, walk}
-use Rattle.body_reading.proofs.Chains.{give-took, then-no, then-took}
+use Rattle.body_reading.proofs.Chains.{both, give-took, same-end, same-value, then-no, then-took}
 
 pub row-end : (w : Bool) (o : ℕ) (st : State) (s : List ℕ) (p : ℕ) → ok st p ≡ on (walk w end o st) s p
 unfolding readRows
@@ -53,15 +52,11 @@ module _ (w : Bool) (z : Size) (f : keeps z ≡ false) (t : ℕ) (i r : Shape) (
       less : n - 1 ≡ k
 
     told : Told
-    unfolding on itemCount then give
-    told = go (count p (drop p s)) refl e
-      where
-        go : (a : Res ℕ) → count p (drop p s) ≡ a → ok k q ≡ more p (next a (λ n. give (n - 1)) p (drop p s)) → Told
-        go (ok n m) d g =
-            let x : k ≡ n - 1 = cc in
-            let y : q ≡ p + (m + 0) = cc in
-            record { n = n; is = ap (λ (j : ℕ). ok n j) (y ∙ ap (λ (j : ℕ). p + j) (add-zero m)) ∙ sym (ap (more p) d); less = sym x }
-        go (bad b) d g = not-ok (sym g)
+    unfolding itemCount
+    told =
+        let a = both count (λ n. give (n - 1)) s p k q e in
+        let g = a .second ∙ sym (give-took (a .x - 1) s (a .u)) in
+        record { n = a .x; is = ap (λ (j : ℕ). ok (a .x) j) (same-end g) ∙ a .first; less = sym (same-value g) }
 
     abbrev items : Res State
     items = on (loop k (walk w i t) (add o (k ∷ []) st)) s q
@@ -71,13 +66,7 @@ module _ (w : Bool) (z : Size) (f : keeps z ≡ false) (t : ℕ) (i r : Shape) (
     same n g = rw f (λ j. on (loop (sym g j) (walk w i t) (add o (sym g j ∷ []) st)) s q)
 
     pub items-no : (c : Refusal) → bad c ≡ items → bad c ≡ on (walk w (array z t i r) o st) s p
-    items-no c d = go told
-      where
-        go : Told → bad c ≡ on (walk w (array z t i r) o st) s p
-        go a = array-no w z t i r o st s p (a .n) q (a .is) c (d ∙ same (a .n) (a .less))
+    items-no c d = array-no w z t i r o st s p (told .n) q (told .is) c (d ∙ same (told .n) (told .less))
 
     pub items-took : (st′ : State) (u : ℕ) (x : Res State) → ok st′ u ≡ items → x ≡ on (walk w r o st′) s u → x ≡ on (walk w (array z t i r) o st) s p
-    items-took st′ u x d g = go told
-      where
-        go : Told → x ≡ on (walk w (array z t i r) o st) s p
-        go a = array-took w z t i r o st s p (a .n) q (a .is) st′ u x (d ∙ same (a .n) (a .less)) g
+    items-took st′ u x d g = array-took w z t i r o st s p (told .n) q (told .is) st′ u x (d ∙ same (told .n) (told .less)) g

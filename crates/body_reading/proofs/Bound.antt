@@ -35,7 +35,7 @@ takes-int k h = record { law = λ p s x n e. let u = int-inv k p s x n e .used i
 takes-unsigned : Takes unsigned
 takes-unsigned = record { law = λ p s x n e. unsigned-small p s x n e .1 }
 
-some-bytes : (w : Width) → 1 ≤ size w
+pub some-bytes : (w : Width) → 1 ≤ size w
 some-bytes w8 = omega arith
 some-bytes w16 = omega arith
 some-bytes w32 = omega arith

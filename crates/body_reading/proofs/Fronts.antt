@@ -14,7 +14,7 @@ use Rattle.body_reading.proofs.Arrays.{items-no, items-no-count, items-
 use Rattle.body_reading.proofs.Close.{store-own}
 use Rattle.body_reading.proofs.Front.{onto, stands-flat, stands-onto}
 use Rattle.body_reading.proofs.RowCells.{row-no, row-took}
-use Rattle.body_reading.proofs.Chains.{Both, both, give-took, same-end, same-refusal, same-value, then-no, then-took}
+use Rattle.body_reading.proofs.Chains.{both, give-took, same-end, same-refusal, same-value, then-no, then-took}
 use Rattle.body_reading.specs.Fronts.{frontOf}
 
 abbrev time : Basic
@@ -83,32 +83,22 @@ module _ (f : Bool) (s : List ℕ) where
 
       parts : Parts
       unfolding frontOf
-      parts = go (both throttle (λ cs. then (itemCount false (fixed w32 empty)) (λ n. give (cs, n))) s 0 (cs, k) q e)
-        where
-          made : (ds : List ℕ) (p : ℕ) → ok ds p ≡ on throttle s 0 → Both {B = List ℕ × ℕ} (itemCount false (fixed w32 empty)) (λ n. give (ds, n)) s p (cs, k) q → Parts
-          made ds p d b =
-              let g = b .second ∙ sym (give-took (ds, b .x) s (b .u)) in
-              record {
-                p = p;
-                first = ap (λ (es : List ℕ). ok es p) (ap (λ (y : List ℕ × ℕ). y .0) (same-value g)) ∙ d;
-                second = (λ j. ok (ap (λ (y : List ℕ × ℕ). y .1) (same-value g) j) (same-end g j)) ∙ b .first;
-              }
-
-          go : Both {B = List ℕ × ℕ} throttle (λ cs. then (itemCount false (fixed w32 empty)) (λ n. give (cs, n))) s 0 (cs, k) q → Parts
-          go a = made (a .x) (a .u) (a .first) (both (itemCount false (fixed w32 empty)) (λ n. give (a .x, n)) s (a .u) (cs, k) q (a .second))
+      parts =
+          let a = both throttle (λ cs. then (itemCount false (fixed w32 empty)) (λ n. give (cs, n))) s 0 (cs, k) q e in
+          let b = both (itemCount false (fixed w32 empty)) (λ n. give (a .x, n)) s (a .u) (cs, k) q (a .second) in
+          let g = b .second ∙ sym (give-took (a .x, b .x) s (b .u)) in
+          record {
+            p = a .u;
+            first = ap (λ (y : List ℕ × ℕ). ok (y .0) (a .u)) (same-value g) ∙ a .first;
+            second = (λ j. ok (same-value g j .1) (same-end g j)) ∙ b .first;
+          }
 
       looped : items ≡ on (loop k (walk false i t) (add 0 (k ∷ []) (own cs ∷ u))) s q
       unfolding add
       looped = ap (λ (x : Tab). on (loop k (walk false i t) (x ∷ u)) s q) (sym (store-own (k ∷ []) cs))
 
       pub body-no-items : (c : Refusal) → bad c ≡ items → bad c ≡ body
-      body-no-items c d = go parts
-        where
-          go : Parts → bad c ≡ body
-          go a = behind-time cs (a .p) (a .first) (bad c) (items-no false (fixed w32 empty) refl t i r 0 (own cs ∷ u) s (a .p) k q (a .second) c (d ∙ looped))
+      body-no-items c d = behind-time cs (parts .p) (parts .first) (bad c) (items-no false (fixed w32 empty) refl t i r 0 (own cs ∷ u) s (parts .p) k q (parts .second) c (d ∙ looped))
 
       pub body-took-items : (st : State) (n : ℕ) (z : Res State) → ok st n ≡ items → z ≡ on (walk false r 0 st) s n → z ≡ body
-      body-took-items st n z d g = go parts
-        where
-          go : Parts → z ≡ body
-          go a = behind-time cs (a .p) (a .first) z (items-took false (fixed w32 empty) refl t i r 0 (own cs ∷ u) s (a .p) k q (a .second) st n z (d ∙ looped) g)
+      body-took-items st n z d g = behind-time cs (parts .p) (parts .first) z (items-took false (fixed w32 empty) refl t i r 0 (own cs ∷ u) s (parts .p) k q (parts .second) st n z (d ∙ looped) g)

@@ -11,14 +11,14 @@ use lib.ListN.{drop, getD, length, replicate}
 use Rattle.layout.specs.Reading.{Refusal, Res, bad, because, ok}
 use Rattle.layout.specs.Tables.{Tables, append, readRows, rowWidth}
 use Rattle.layout.specs.Answers.{Answer, Message, accepted, most, readAnswer, refused, seen, shape, widths}
-use Rattle.layout.proofs.Calls.{Seen, read-refused, seen-inv, seen-prefix, too-long, version-above, version-below}
+use Rattle.layout.proofs.Calls.{read-refused, seen-inv, seen-prefix, too-long, version-above, version-below}
 use Rattle.layout.proofs.Local.{not-ok}
 use Rattle.layout.proofs.Proper.{proper}
 use Rattle.body_reading.specs.Meter.{lengths, metered}
 use Rattle.body_reading.specs.Store.{State, own}
 use Rattle.body_reading.specs.Walk.{on, walk}
 use Rattle.body_reading.proofs.Bound.{lean, slim, slim-at}
-use Rattle.body_reading.proofs.Close.{Ended, ended, ended-no, filled, marks, none-yet, read-long, runs-so, slices, slices-tabs, tabs}
+use Rattle.body_reading.proofs.Close.{ended, ended-no, filled, marks, none-yet, read-long, runs-so, slices, slices-tabs, tabs}
 use Rattle.body_reading.specs.Meter.{short}
 use Rattle.body_reading.proofs.Reply.{none-same, reply-fits, reply-needs, seen-bad}
 
@@ -46,10 +46,9 @@ module _ (m : Message) (h : proper m ≡ true) (few : slim m ≡ true) (v : ℕ)
 
     pub measured-took : (cs : List ℕ) (u : State) (q : ℕ) → ok (own cs ∷ u) q ≡ run m v s scratch → ok (cs, marks u) q ≡ metered (seen false m (pos v) s)
     unfolding metered
-    measured-took cs u q e = go (ended false (shape m v) (thin .0) (thin .1) s size scratch e)
-      where
-        go : Ended false (shape m v) s scratch cs u q → ok (cs, marks u) q ≡ metered (seen false m (pos v) s)
-        go a = ap (λ (ms : List ℕ). ok (cs, ms) q) (a .marks-are) ∙ ap metered (sym (seen-prefix m v s (cs ∷ a .rows) q known size (sym (from-start m v s scratch many) ∙ a .is)))
+    measured-took cs u q e =
+        let a = ended false (shape m v) (thin .0) (thin .1) s size scratch e in
+        ap (λ (ms : List ℕ). ok (cs, ms) q) (a .marks-are) ∙ ap metered (sym (seen-prefix m v s (cs ∷ a .rows) q known size (sym (from-start m v s scratch many) ∙ a .is)))
 
 -- 1 and 2 come first; v is the version's number, as far as it has one
 module _ (m : Message) (z : ℤ) (s : List ℕ) (c : Refusal) where
@@ -100,10 +99,9 @@ module _ (m : Message) (h : proper m ≡ true) (few : slim m ≡ true) (z : ℤ)
 
     -- version and size were judged; v is the version's number, as far as it has one
     pub is-known : (v : ℕ) → ((n : ℕ) → z ≡ pos n → v ≡ n) → (pos v ≡ z) × ((v ≤ m .last) × (length s ≤ most))
-    is-known v i = go (seen-inv false m z s (told .st) q (told .said))
-      where
-        go : Seen false m z s (told .st) q → (pos v ≡ z) × ((v ≤ m .last) × (length s ≤ most))
-        go a = let k : v ≡ a .version = i (a .version) (a .is) in (ap pos k ∙ sym (a .is), (subst (λ (j : ℕ). j ≤ m .last) (sym k) (a .known), a .short))
+    is-known v i =
+        let a = seen-inv false m z s (told .st) q (told .said) in
+        let k : v ≡ a .version = i (a .version) (a .is) in (ap pos k ∙ sym (a .is), (subst (λ (j : ℕ). j ≤ m .last) (sym k) (a .known), a .short))
 
     module _ (olds : Tables) (many : length olds ≡ m .tables) (v : ℕ) (i : (n : ℕ) → z ≡ pos n → v ≡ n) where
       known : v ≤ m .last
@@ -133,34 +131,25 @@ module _ (m : Message) (h : proper m ≡ true) (few : slim m ≡ true) (z : ℤ)
       }
 
       known-is : Known
-      known-is = go told
-        where
-          at-version : (st : Tables) → Seen false m z s st q → reads m v s olds ≡ ok st q
-          at-version st a =
-              let k : a .version ≡ v = sym (i (a .version) (a .is)) in
-              from-start m v s olds many ∙ subst (λ (j : ℕ). readRows false append (shape m j) 0 (replicate (suc (m .tables)) []) 0 s ≡ ok st q) k (a .reads)
-
-          go : Told → Known
-          go a =
-              let r = at-version (a .st) (seen-inv false m z s (a .st) q (a .said)) in
-              of-tables (a .st) (read-long false (shape m v) (thinner .0) (thinner .1) s size olds (a .st) q r) r (ap (λ (y : ℤ). seen false m y s) (is-known v i .0) ∙ a .said) (a .own-row) (a .sizes)
+      known-is =
+          let a = seen-inv false m z s (told .st) q (told .said) in
+          let k : a .version ≡ v = sym (i (a .version) (a .is)) in
+          let r = from-start m v s olds many ∙ subst (λ (j : ℕ). readRows false append (shape m j) 0 (replicate (suc (m .tables)) []) 0 s ≡ ok (told .st) q) k (a .reads) in
+          of-tables (told .st) (read-long false (shape m v) (thinner .0) (thinner .1) s size olds (told .st) q r) r (ap (λ (y : ℤ). seen false m y s) (is-known v i .0) ∙ told .said) (told .own-row) (told .sizes)
 
       at-z : {o : Answer × Tables} → o ≡ readAnswer false m (pos v) olds s → o ≡ readAnswer false m z olds s
       at-z d = d ∙ ap (λ (y : ℤ). readAnswer false m y olds s) (is-known v i .0)
 
       -- 10: the first table too small
       pub metered-short : (k : ℕ) → short (widths m) ms (lengths olds) ≡ some k → (c : Refusal) → c ≡ record { number = 10; place = 0; need = k } → (refused c, olds) ≡ readAnswer false m z olds s
-      metered-short k f c d = go known-is
-        where
-          go : Known → (refused c, olds) ≡ readAnswer false m z olds s
-          go a = ap (λ (y : Refusal). (refused y, olds)) d ∙ at-z (sym (reply-needs m h false v s olds many row (a .st) q (a .said) k (ap (λ (ns : List ℕ). short (widths m) ns (lengths olds)) (sym (a .sizes)) ∙ f)))
+      metered-short k f c d =
+          let a = known-is in
+          ap (λ (y : Refusal). (refused y, olds)) d ∙ at-z (sym (reply-needs m h false v s olds many row (a .st) q (a .said) k (ap (λ (ns : List ℕ). short (widths m) ns (lengths olds)) (sym (a .sizes)) ∙ f)))
 
       -- all has room: the second walk's answer is the first's, whether it is looked at or not
       pub metered-fits : short (widths m) ms (lengths olds) ≡ none → (o : Res State) → o ≡ run m v s olds → (news : Tables) → ((x : State) (n : ℕ) → o ≡ ok x n → slices x ≡ news) → (accepted row q, news) ≡ readAnswer false m z olds s
-      metered-fits f o d news g = go known-is
-        where
-          go : Known → (accepted row q, news) ≡ readAnswer false m z olds s
-          go a =
-              let b = g _ _ (d ∙ runs-so false (shape m v) (thinner .0) (thinner .1) s size olds row (a .st) q (a .is)) in
-              ap (λ (y : Tables). (accepted row q, y)) (sym b ∙ slices-tabs (filled olds (a .st)) (lengths (a .st)))
-              ∙ at-z (sym (reply-fits m h false v s olds many row (a .st) q (a .said) (a .long) (ap (λ (ns : List ℕ). short (widths m) ns (lengths olds)) (sym (a .sizes)) ∙ f)))
+      metered-fits f o d news g =
+          let a = known-is in
+          let b = g _ _ (d ∙ runs-so false (shape m v) (thinner .0) (thinner .1) s size olds row (a .st) q (a .is)) in
+          ap (λ (y : Tables). (accepted row q, y)) (sym b ∙ slices-tabs (filled olds (a .st)) (lengths (a .st)))
+          ∙ at-z (sym (reply-fits m h false v s olds many row (a .st) q (a .said) (a .long) (ap (λ (ns : List ℕ). short (widths m) ns (lengths olds)) (sym (a .sizes)) ∙ f)))

@@ -15,8 +15,7 @@ use Rattle.body_reading.specs.Walk.{Places, on, walk}
 use Rattle.body_reading.proofs.Bound.{slim}
 use Rattle.body_reading.proofs.Close.{slices}
 use Rattle.body_reading.specs.Meter.{short}
-use Rattle.body_reading.proofs.Reply.{answers-fits, answers-needs, answers-no}
-use Rattle.body_reading.proofs.Rooms.{short-here, short-next, short-none}
+use Rattle.body_reading.proofs.Reply.{answers-fits, answers-needs, answers-no, short-here, short-next, short-none}
 use Rattle.layout.proofs.Chunks.{nil}
 
 -- the body's own row and the table

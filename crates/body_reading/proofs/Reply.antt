@@ -1,10 +1,10 @@
--- The whole reply of a call, from what its measuring and its filling walk came to: for every proper message and any number of lent tables.
+-- The whole reply of a call, from what its measuring and its filling walk came to: for every proper message and any number of lent tables. Room is judged table by table, in their order.
 use mathlib.Core.Bool.{Bool, cond, false, true}
 use mathlib.Core.List.{List, [], _++_, _∷_, map}
 use mathlib.Core.Option.{none, some}
 use mathlib.Core.Path.{_∙_, _≡_, ap, refl, subst, sym}
 use Prim.Native.Nat.{_*_, _+_, _/_, _<_, _≤_, suc, zero, ℕ}
-use native.Mathlib.Nat.{add-zero, div-mul-le-self, le-of-eq, le-trans, mul-le-mul-right, zero-add}
+use native.Mathlib.Nat.{add-zero, div-mul-le-self, div-one, le-of-eq, le-trans, mul-le-mul-right, zero-add}
 use native.Mathlib.Omega.{arith}
 use lib.Dec.{eqb, leb}
 use lib.IntN.{pos}
@@ -15,13 +15,13 @@ use Rattle.layout.specs.Reading.{Refusal, Res, bad, because, ok}
 use Rattle.layout.specs.Tables.{Tables, append, from, readRows, rowWidth}
 use Rattle.layout.specs.Answers as Answers
 use Rattle.layout.specs.Answers.{Message, accepted, laid, most, needed, prefixRead, readAnswer, refused, seen, shape, widths}
-use Rattle.layout.proofs.Calls.{Seen, need-is, read-answer, read-refused, seen-inv, tables-are, too-long}
-use Rattle.layout.proofs.Contents.{joined-length, rows-wide, rowsIn}
-use Rattle.layout.proofs.Proper.{owed, proper, width-same, widthAt}
-use Rattle.layout.proofs.Tests.{le-true, lt-false, lt-true, of-le}
 use Rattle.body_reading.specs.Meter.{lengths, short}
 use Rattle.body_reading.specs.Store.{State, own}
 use Rattle.body_reading.specs.Walk.{on, walk}
+use Rattle.layout.proofs.Calls.{Seen, need-is, read-answer, read-refused, seen-inv, tables-are, too-long}
+use Rattle.layout.proofs.Contents.{joined-length, rows-wide, rowsIn}
+use Rattle.layout.proofs.Proper.{owed, proper, width-same, widthAt}
+use Rattle.layout.proofs.Tests.{le-false, le-true, lt-false, lt-true, of-le}
 use Rattle.body_reading.proofs.Bound.{lean, slim, slim-at}
 use Rattle.body_reading.proofs.Close.{Ended, ended, ended-no, filled, marks, none-yet, runs-so, slices, slices-tabs, tabs}
 
@@ -131,15 +131,6 @@ module _ (m : Message) (w : Bool) (v : ℕ) (s : List ℕ) (olds : Tables) (c : 
 
 -- ---- versions
 
--- what holds of 0 to 4, one by one
-pub up-to-four : (P : ℕ → Type 0) → P 0 → P 1 → P 2 → P 3 → P 4 → (v : ℕ) → v ≤ 4 → P v
-up-to-four P a b c d e zero h = a
-up-to-four P a b c d e (suc zero) h = b
-up-to-four P a b c d e (suc (suc zero)) h = c
-up-to-four P a b c d e (suc (suc (suc zero))) h = d
-up-to-four P a b c d e (suc (suc (suc (suc zero)))) h = e
-up-to-four P a b c d e (suc (suc (suc (suc (suc v))))) h = absurd (omega arith)
-
 -- two of one layout read alike
 pub one-layout : (m : Message) (a b : ℕ) → a ≤ m .last → b ≤ m .last → shape m a ≡ shape m b → (olds : Tables) (s : List ℕ) → prefixRead m (pos a) olds s ≡ prefixRead m (pos b) olds s
 unfolding prefixRead readAnswer seen
@@ -185,18 +176,35 @@ module _ (m : Message) (h : proper m ≡ true) (few : slim m ≡ true) (w : Bool
 
       -- 10: the first table too small
       pub answers-needs : (k : ℕ) → short (widths m) (marks u) (lengths olds) ≡ some k → (refused (record { number = 10; place = 0; need = k }), olds) ≡ readAnswer w m (pos v) olds s
-      answers-needs k e = go measured
-        where
-          go : Ended w (shape m v) s scratch cs u q → (refused (record { number = 10; place = 0; need = k }), olds) ≡ readAnswer w m (pos v) olds s
-          go d = sym (reply-needs m h w v s olds many cs (d .rows) q (has-seen (cs ∷ d .rows) (d .is)) k (ap (λ ms. short (widths m) ms (lengths olds)) (sym (d .marks-are)) ∙ e))
+      answers-needs k e = sym (reply-needs m h w v s olds many cs (measured .rows) q (has-seen (cs ∷ measured .rows) (measured .is)) k (ap (λ ms. short (widths m) ms (lengths olds)) (sym (measured .marks-are)) ∙ e))
 
       -- all has room: the second run's answer is the first's, whether it is looked at or not
       pub answers-fits : short (widths m) (marks u) (lengths olds) ≡ none → (z : Res State) → z ≡ run olds → (news : Tables) → ((x : State) (n : ℕ) → z ≡ ok x n → slices x ≡ news) → (accepted cs q, news) ≡ readAnswer w m (pos v) olds s
-      answers-fits e z d news f = go measured
-        where
-          go : Ended w (shape m v) s scratch cs u q → (accepted cs q, news) ≡ readAnswer w m (pos v) olds s
-          go a =
-              let b = ap (λ y. readRows w append (shape m v) 0 ([] ∷ y) 0 s) (none-same olds (m .tables) many ∙ sym (none-same scratch (m .tables) also)) ∙ a .is in
-              let g = f _ _ (d ∙ runs-so w (shape m v) (thin .0) (thin .1) s size olds cs (a .rows) q b) in
-              ap (λ y. (accepted cs q, y)) (sym g ∙ slices-tabs (filled olds (a .rows)) (lengths (a .rows)))
-              ∙ sym (reply-fits m h w v s olds many cs (a .rows) q (has-seen (cs ∷ a .rows) (a .is)) (a .long ∙ also ∙ sym many) (ap (λ ms. short (widths m) ms (lengths olds)) (sym (a .marks-are)) ∙ e))
+      answers-fits e z d news f =
+          let a = measured in
+          let b = ap (λ y. readRows w append (shape m v) 0 ([] ∷ y) 0 s) (none-same olds (m .tables) many ∙ sym (none-same scratch (m .tables) also)) ∙ a .is in
+          let g = f _ _ (d ∙ runs-so w (shape m v) (thin .0) (thin .1) s size olds cs (a .rows) q b) in
+          ap (λ y. (accepted cs q, y)) (sym g ∙ slices-tabs (filled olds (a .rows)) (lengths (a .rows)))
+          ∙ sym (reply-fits m h w v s olds many cs (a .rows) q (has-seen (cs ∷ a .rows) (a .is)) (a .long ∙ also ∙ sym many) (ap (λ ms. short (widths m) ms (lengths olds)) (sym (a .marks-are)) ∙ e))
+
+-- rows of width w: k cells that there will be, and n lent
+module _ (w : ℕ) (ws : List ℕ) (k : ℕ) (ks : List ℕ) (n : ℕ) (ns : List ℕ) where
+  pub short-here : n / w < k / w → short (w ∷ ws) (k ∷ ks) (n ∷ ns) ≡ some (k / w)
+  unfolding short
+  short-here h = rw (le-false (k / w) (n / w) h)
+
+  pub short-next : k / w ≤ n / w → short (w ∷ ws) (k ∷ ks) (n ∷ ns) ≡ short ws ks ns
+  unfolding short
+  short-next h = rw (le-true (k / w) (n / w) h)
+
+-- rows of one cell
+module _ (ws : List ℕ) (k : ℕ) (ks : List ℕ) (n : ℕ) (ns : List ℕ) where
+  pub cells-here : n < k → short (1 ∷ ws) (k ∷ ks) (n ∷ ns) ≡ some k
+  cells-here h = short-here 1 ws k ks n ns (rw (div-one k, div-one n) h) ∙ ap some (div-one k)
+
+  pub cells-next : k ≤ n → short (1 ∷ ws) (k ∷ ks) (n ∷ ns) ≡ short ws ks ns
+  cells-next h = short-next 1 ws k ks n ns (rw (div-one k, div-one n) h)
+
+pub short-none : (ks ns : List ℕ) → short [] ks ns ≡ none
+unfolding short
+short-none ks ns = refl

@@ -1,23 +1,21 @@
 -- A row read as its cells: field by field, and as the front of a walk over the row and what stands behind it.
-use mathlib.Core.Bool.{Bool, false, true}
+use mathlib.Core.Bool.{Bool, false}
 use mathlib.Core.List.{List, [], _++_, _∷_, append-assoc, append-nil}
 use mathlib.Core.Path.{_∙_, _≡_, ap, refl, sym}
 use Prim.Native.Nat.{_+_, ℕ}
-use native.Mathlib.Nat.{add-zero}
 use lib.ListN.{drop}
-use Rattle.layout.specs.Reading.{Refusal, Res, bad, give, more, next, ok, then}
+use Rattle.layout.specs.Reading.{Refusal, Res, bad, more, ok, then}
 use Rattle.layout.specs.Rows.{Basic, BasicValue, Shape, Value, absent, array, end, field, lacking, stands}
 use Rattle.layout.specs.Read.{byPlace, read, readBasic}
 use Rattle.layout.specs.Tables.{Span, absentCells, absentCount, cells, readRows}
 use Rattle.layout.proofs.Contents.{rowCells}
-use Rattle.layout.proofs.Link.{keep, link, over, then-assoc}
+use Rattle.layout.proofs.Link.{keep, link, over, over-more, then-assoc}
 use Rattle.layout.proofs.Local.{not-ok}
 use Rattle.body_reading.specs.Store.{State, add}
 use Rattle.body_reading.specs.Walk.{on, rowFrom, walk}
-use Rattle.body_reading.proofs.Flat as Flat
-use Rattle.body_reading.proofs.Flat.{Flat, keep-flat}
-use Rattle.body_reading.proofs.Front.{front-no, front-took, onto, then-give}
-use Rattle.body_reading.proofs.Chains.{give-took, then-no, then-took}
+use Rattle.body_reading.proofs.Front as Front
+use Rattle.body_reading.proofs.Front.{Flat, front-no, front-took, keep-flat, onto, stands-flat, stands-onto, then-give}
+use Rattle.body_reading.proofs.Chains.{give-took, same-end, same-refusal, same-value, then-no, then-took}
 
 -- ---- field by field
 
@@ -78,96 +76,67 @@ module _ (l : Shape) (h : Flat l) (s : List ℕ) (p : ℕ) where
     pub is : ok value q ≡ on (read (byPlace false) l) s p
     pub told : cs ≡ rowCells l value
 
-  as-read : on (rowFrom [] l) s p ≡ more p (over (λ x. keep (λ t cs es. es ++ cs) l 0 x []) (read (byPlace false) l p (drop p s)))
+  -- its cells behind ds
+  abbrev glue : List ℕ → Value Span l → List ℕ
+  glue ds x = keep (λ t cs es. es ++ cs) l 0 x ds
+
+  as-read : (ds : List ℕ) → on (rowFrom ds l) s p ≡ over (glue ds) (on (read (byPlace false) l) s p)
   unfolding on rowFrom
-  as-read = ap (more p) (link false (λ t cs es. es ++ cs) l 0 [] .law p (drop p s) tt)
+  as-read ds = ap (more p) (link false (λ t cs es. es ++ cs) l 0 ds .law p (drop p s) tt) ∙ sym (over-more (glue ds) p (read (byPlace false) l p (drop p s)))
 
   pub row-of : (cs : List ℕ) (q : ℕ) → ok cs q ≡ on (rowFrom [] l) s p → Row cs q
-  unfolding on
-  row-of cs q e = go (read (byPlace false) l p (drop p s)) refl (e ∙ as-read)
+  row-of cs q e = go (on (read (byPlace false) l) s p) refl (e ∙ as-read [])
     where
-      go : (o : Res (Value Span l)) → read (byPlace false) l p (drop p s) ≡ o → ok cs q ≡ more p (over (λ x. keep (λ t cs es. es ++ cs) l 0 x []) o) → Row cs q
-      go (ok x n) d g =
-          let a : cs ≡ keep (λ t cs es. es ++ cs) l 0 x [] = cc in
-          let b : q ≡ p + n = cc in
-          record { value = x; is = ap (λ (k : ℕ). ok x k) b ∙ sym (ap (more p) d); told = a ∙ glued l h 0 x [] }
+      go : (o : Res (Value Span l)) → on (read (byPlace false) l) s p ≡ o → ok cs q ≡ over (glue []) o → Row cs q
+      go (ok x n) d g = record { value = x; is = ap (λ (k : ℕ). ok x k) (same-end g) ∙ sym d; told = same-value g ∙ glued l h 0 x [] }
       go (bad c) d g = not-ok (sym g)
 
   pub no-row-of : (c : Refusal) → bad c ≡ on (rowFrom [] l) s p → bad c ≡ on (read (byPlace false) l) s p
-  unfolding on
-  no-row-of c e = go (read (byPlace false) l p (drop p s)) refl (e ∙ as-read)
+  no-row-of c e = go (on (read (byPlace false) l) s p) refl (e ∙ as-read [])
     where
-      go : (o : Res (Value Span l)) → read (byPlace false) l p (drop p s) ≡ o → bad c ≡ more p (over (λ x. keep (λ t cs es. es ++ cs) l 0 x []) o) → bad c ≡ more p (read (byPlace false) l p (drop p s))
+      go : (o : Res (Value Span l)) → on (read (byPlace false) l) s p ≡ o → bad c ≡ over (glue []) o → bad c ≡ on (read (byPlace false) l) s p
       go (ok x n) d g = not-ok g
-      go (bad b) d g = let a : c ≡ b = cc in ap bad a ∙ sym (ap (more p) d)
+      go (bad b) d g = ap bad (same-refusal g) ∙ sym d
+
+  -- the cells of what is read, from other cells on
+  pub read-row : (ds : List ℕ) (x : Value Span l) (q : ℕ) → ok x q ≡ on (read (byPlace false) l) s p → ok (ds ++ rowCells l x) q ≡ on (rowFrom ds l) s p
+  read-row ds x q e = ap (λ (es : List ℕ). ok es q) (sym (glued l h 0 x ds)) ∙ ap (over (glue ds)) e ∙ sym (as-read ds)
+
+  behind-took : (ds cs : List ℕ) (q : ℕ) → ok cs q ≡ on (rowFrom [] l) s p → ok (ds ++ cs) q ≡ on (rowFrom ds l) s p
+  behind-took ds cs q e = let a = row-of cs q e in ap (λ (es : List ℕ). ok (ds ++ es) q) (a .told) ∙ read-row ds (a .value) q (a .is)
+
+  behind-no : (ds : List ℕ) (c : Refusal) → bad c ≡ on (rowFrom [] l) s p → bad c ≡ on (rowFrom ds l) s p
+  behind-no ds c e = ap (over (glue ds)) (no-row-of c e) ∙ sym (as-read ds)
 
   module _ (r : Shape) (o : ℕ) (st : State) where
     pub row-no : (c : Refusal) → bad c ≡ on (rowFrom [] l) s p → bad c ≡ on (walk false (onto l r) o st) s p
     row-no c e = front-no false r o l h st s p c (no-row-of c e)
 
     pub row-took : (cs : List ℕ) (q : ℕ) → ok cs q ≡ on (rowFrom [] l) s p → (z : Res State) → z ≡ on (walk false r o (add o cs st)) s q → z ≡ on (walk false (onto l r) o st) s p
-    row-took cs q e z d = go (row-of cs q e)
-      where
-        go : Row cs q → z ≡ on (walk false (onto l r) o st) s p
-        go a = front-took false r o l h st s p (a .value) q (a .is) z (d ∙ ap (λ (ds : List ℕ). on (walk false r o (add o ds st)) s q) (a .told))
+    row-took cs q e z d = let a = row-of cs q e in front-took false r o l h st s p (a .value) q (a .is) z (d ∙ ap (λ (ds : List ℕ). on (walk false r o (add o ds st)) s q) (a .told))
 
 -- ---- a field that the version may lack
 
 module _ (b : Bool) (k : Basic) (r : Shape) (ds s : List ℕ) (p : ℕ) where
-  record Took (cs : List ℕ) (q : ℕ) : Type 0 where
-    x : BasicValue Span k
-    is : ok x q ≡ on (readBasic (byPlace false) k) s p
-    told : cs ≡ cells k x
+  in-row : on (rowFrom ds (onto (stands b k end) r)) s p ≡ on (rowFrom ds (stands b k r)) s p
+  in-row = ap (λ (l : Shape). on (rowFrom ds l) s p) (stands-onto k b end r)
 
-  took-of : (cs : List ℕ) (q : ℕ) → ok cs q ≡ on (rowFrom [] (field k end)) s p → Took cs q
-  unfolding on rowFrom readRows then give
-  took-of cs q e = go (readBasic (byPlace false) k p (drop p s)) refl e
-    where
-      go : (o : Res (BasicValue Span k)) → readBasic (byPlace false) k p (drop p s) ≡ o → ok cs q ≡ more p (next o (λ x. give (cells k x)) p (drop p s)) → Took cs q
-      go (ok x n) d g =
-          let a : cs ≡ cells k x = cc in
-          let c : q ≡ p + (n + 0) = cc in
-          record { x = x; is = ap (λ (j : ℕ). ok x j) (c ∙ ap (λ (j : ℕ). p + j) (add-zero n)) ∙ sym (ap (more p) d); told = a }
-      go (bad c) d g = not-ok (sym g)
-
-  no-took : (c : Refusal) → bad c ≡ on (rowFrom [] (field k end)) s p → bad c ≡ on (readBasic (byPlace false) k) s p
-  unfolding on rowFrom readRows then give
-  no-took c e = go (readBasic (byPlace false) k p (drop p s)) refl e
-    where
-      go : (o : Res (BasicValue Span k)) → readBasic (byPlace false) k p (drop p s) ≡ o → bad c ≡ more p (next o (λ x. give (cells k x)) p (drop p s)) → bad c ≡ more p (readBasic (byPlace false) k p (drop p s))
-      go (ok x n) d g = not-ok g
-      go (bad a) d g = let h : c ≡ a = cc in ap bad h ∙ sym (ap (more p) d)
+  flat : Flat (stands b k end)
+  flat = stands-flat k b end tt
 
   pub cells-if-no : (c : Refusal) → bad c ≡ on (rowFrom [] (stands b k end)) s p → bad c ≡ on (rowFrom ds (stands b k r)) s p
-  unfolding stands
-  cells-if-no c e = go b e
-    where
-      go : (b : Bool) → bad c ≡ on (rowFrom [] (stands b k end)) s p → bad c ≡ on (rowFrom ds (stands b k r)) s p
-      go true e = cells-no ds k r s p c (no-took c e)
-      go false e = not-ok (e ∙ sym (cells-absent [] k end s p _ (cells-end ([] ++ absentCells k) s p)))
+  cells-if-no c e = first-no (stands b k end) flat r ds s p c (behind-no (stands b k end) flat s p ds c e) ∙ in-row
 
   pub cells-if-took : (cs : List ℕ) (q : ℕ) → ok cs q ≡ on (rowFrom [] (stands b k end)) s p → (z : Res (List ℕ)) → z ≡ on (rowFrom (ds ++ cs) r) s q → z ≡ on (rowFrom ds (stands b k r)) s p
-  unfolding stands
-  cells-if-took cs q e z d = go b e
-    where
-      go : (b : Bool) → ok cs q ≡ on (rowFrom [] (stands b k end)) s p → z ≡ on (rowFrom ds (stands b k r)) s p
-      go true e =
-          let t = took-of cs q e in
-          cells-took ds k r s p (t .x) q (t .is) z (d ∙ ap (λ (es : List ℕ). on (rowFrom (ds ++ es) r) s q) (t .told))
-      go false e =
-          let a = cells-absent [] k end s p _ (cells-end ([] ++ absentCells k) s p) ∙ sym e in
-          let c : absentCells k ≡ cs = cc in
-          let f : p ≡ q = cc in
-          cells-absent ds k r s p z (d ∙ (λ i. on (rowFrom (ds ++ sym c i) r) s (sym f i)))
+  cells-if-took cs q e z d = first-took (stands b k end) flat r ds s p (ds ++ cs) q (behind-took (stands b k end) flat s p ds cs q e) z d ∙ in-row
 
 -- ---- alone: a row with nothing behind it
 
 module _ (l : Shape) (h : Flat l) (o : ℕ) (st : State) (s : List ℕ) (p : ℕ) where
   pub alone-no : (c : Refusal) → bad c ≡ on (rowFrom [] l) s p → bad c ≡ on (walk false l o st) s p
-  alone-no c e = Flat.row-no false l o st s p c (no-row-of l h s p c e)
+  alone-no c e = Front.row-no false l o st s p c (no-row-of l h s p c e)
 
   pub alone-took : (cs : List ℕ) (q : ℕ) → ok cs q ≡ on (rowFrom [] l) s p → ok (add o cs st) q ≡ on (walk false l o st) s p
-  alone-took cs q e = go (row-of l h s p cs q e)
-    where
-      go : Row l h s p cs q → ok (add o cs st) q ≡ on (walk false l o st) s p
-      go a = ap (λ (u : State). ok u q) (ap (λ (ds : List ℕ). add o ds st) (a .told) ∙ sym (keep-flat l h o (a .value) st)) ∙ Flat.row-took false l o st s p (a .value) q (a .is)
+  alone-took cs q e =
+      let a = row-of l h s p cs q e in
+      ap (λ (u : State). ok u q) (ap (λ (ds : List ℕ). add o ds st) (a .told) ∙ sym (keep-flat l h o (a .value) st)) ∙ Front.row-took false l o st s p (a .value) q (a .is)

@@ -1,20 +1,27 @@
--- Counts: the rows that one tells, that of a table judged by its rows, and those of all rows of a table added up.
-use mathlib.Core.Bool.{Bool, _&&_, and-false, and-true, cond, false, true}
+-- Counts: the rows that one tells, that of a table judged by its rows, and those of all rows of a table added up. And cells, which are below 2^64.
 use mathlib.Core.List.{List, [], _∷_}
+use mathlib.Core.Bool.{Bool, _&&_, and-false, and-true, cond, false, true}
 use mathlib.Core.Logic.{_≢_}
 use mathlib.Core.Path.{_∙_, _≡_, ap, refl, sym}
 use Prim.Native.Nat.{_*_, _+_, _-_, _/_, _<_, _^_, _≤_, suc, ℕ}
-use native.Mathlib.Numerals.{add-one}
 use native.Mathlib.Omega.{arith}
-use lib.Dec.{eqb, ltb}
+use native.Mathlib.Numerals.{add-one}
 use lib.ListN.{drop, drop-of-length-le, getD, length}
-use lib.Seq.{drop-cons}
+use lib.Seq.{drop-cons, getD-drop}
+use lib.Dec.{eqb, ltb}
 use borrow.Author.Tests.{eq-eqb, ne-eqb}
 use Rattle.layout.specs.Primitives.{minus}
 use Rattle.layout.specs.Tables.{all, count, goodCount, rowsOf, sum}
+use Rattle.body_writing.specs.Asked.{tells, told, toldGood}
 use Rattle.layout.proofs.Tests.{lt-true, not-minus, of-eq, of-ne}
 use Rattle.layout.proofs.Chunks.{row-cell, rows-many}
-use Rattle.body_writing.specs.Asked.{tells, told, toldGood}
+
+-- every cell is below 2^64
+abbrev pub Cells : List ℕ → Type 0
+Cells cs = (i : ℕ) → getD cs i 0 < 2 ^ 64
+
+pub cells-drop : (k : ℕ) (cs : List ℕ) → Cells cs → Cells (drop k cs)
+cells-drop k cs h i = omega (arith, getD-drop k cs i 0, h (k + i))
 
 -- −1 tells no rows
 pub told-none : (c : ℕ) → c ≡ minus → 0 ≡ count c

@@ -1,24 +1,97 @@
--- Rows that all have k bytes: three numbers at their places, row behind row in an output of just their size, and such an output as the front of another.
+-- What writers leave of a row, in the words of its layout: a STRING, an array's items behind their number, and null. And rows that all have k bytes: three numbers at their places, row behind row in an output of just their size, and such an output as the front of another.
+use mathlib.Core.Bool.{_&&_}
 use mathlib.Core.List.{List, [], _++_, _∷_, append-assoc, append-nil}
-use mathlib.Core.Path.{_∙_, _≡_, ap, refl, sym}
-use Prim.Native.Nat.{_*_, _+_, _-_, _/_, _<_, _≤_, suc, ℕ}
-use native.Mathlib.Nat.{mul-le-mul-right}
-use native.Mathlib.Decide.{decLt}
+use mathlib.Core.Path.{_∙_, _≡_, ap, ap₂, refl, sym}
+use Prim.Native.Nat.{_*_, _+_, _-_, _/_, _<_, _≤_, min, suc, ℕ}
+use native.Mathlib.Nat.{add-zero, mul-le-mul-right}
 use native.Mathlib.Omega.{arith}
-use borrow.Rule.Slice.PartMut.{midOf, putMid}
+use native.Mathlib.Decide.{decLt}
 use lib.ListN.{drop, drop-of-length-le, getD, length, length-append, length-drop, take}
-use lib.Seq.{length-take-le}
-use Rattle.layout.specs.Primitives.{bytes}
-use Rattle.layout.specs.Tables.{rowsOf}
-use Rattle.layout.specs.Write.{each}
-use Rattle.layout.proofs.Back.{length-bytes}
+use lib.Seq.{getD-take, length-take-le}
+use borrow.Rule.Slice.PartMut.{midOf, putMid}
+use Rattle.layout.specs.Primitives.{Null, Size, Width, bytes, compact, fixed, holds, lengthBytes, never, nullBytes, size, sizedBytes, w16, w32}
+use Rattle.layout.specs.Rows.{Shape, end, field, number, text}
+use Rattle.layout.specs.Tables.{basicOf, pop, rowsOf, slice, spanOf, valueOf, width}
+use Rattle.layout.specs.Write.{basicFault, each, fault, unless, write, writeBasic}
 use Rattle.primitives_put.specs.Step.{Capped, Step, cap}
-use Rattle.primitives_put.proofs.Capped.{capped}
-use Rattle.layout.proofs.Chunks.{rows-many}
-use Rattle.primitives_put.proofs.Step.{step-as, step-behind}
-use Rattle.body_writing.proofs.Turns.{Walked, walked-end, walked-more, walked-start}
-use Rattle.primitives_put.specs.Put.{Put}
+use Rattle.primitives_put.specs.declared.Form.{Form}
+use Rattle.primitives_put.specs.Put.{Put, behindLength, sizeOf}
+use Rattle.body_writing.specs.Writes.{bytesAt, countedBytes, faultAt, rowBytes, rowFault, rowsBytes}
+use Rattle.primitives_put.proofs.Capped.{capped, capped-as, capped-behind, step-as, step-behind}
+use Rattle.layout.proofs.Chunks.{row-cell, rows-many}
 use Rattle.primitives_put.proofs.Stored.{put-step}
+use Rattle.layout.proofs.Back.{length-bytes}
+use Rattle.body_writing.proofs.Faults.{or-three}
+use Rattle.body_writing.proofs.Turns.{Walked, walked-end, walked-more, walked-start}
+
+-- a length is carried alike whatever null is
+abbrev pub formed : Form → Null → Size
+formed Form.Int16 m = fixed w16 m
+formed Form.Int32 m = fixed w32 m
+formed Form.Compact m = compact m
+
+length-form : (x : Form) (m : Null) (n : ℕ) → lengthBytes (sizeOf x) n ≡ lengthBytes (formed x m) n
+unfolding lengthBytes
+length-form Form.Int16 m n = refl
+length-form Form.Int32 m n = refl
+length-form Form.Compact m n = refl
+
+null-form : (x : Form) (m : Null) → nullBytes (sizeOf x) ≡ nullBytes (formed x m)
+unfolding nullBytes
+null-form Form.Int16 m = refl
+null-form Form.Int32 m = refl
+null-form Form.Compact m = refl
+
+pub null-put : (x : Form) (m : Null) {d d′ : List ℕ} {n : ℕ} → Put (nullBytes (sizeOf x)) d n d′ → Capped (nullBytes (formed x m)) d n d′
+null-put x m p = capped-as (null-form x m) (capped (put-step p))
+
+-- rows of items behind their number
+pub counted-put : (x : Form) (m : Null) (lent : List ℕ) (l : Shape) (w : ℕ) (table : List ℕ) {d d₁ e : List ℕ} {n k : ℕ} (at : ℕ) → at ≡ min n (length d₁) → (r : ℕ) → cap r ≡ cap (n + k) →
+    Put (lengthBytes (sizeOf x) (length table / w)) d n d₁ → Capped (rowsBytes lent l w table) (midOf at (length d₁ - at) d₁) k e → Capped (countedBytes lent l (formed x m) w table) d r (putMid at (length d₁ - at) d₁ e)
+unfolding countedBytes
+counted-put x m lent l w table at h r c p s = capped-as (ap (λ (y : List ℕ). y ++ rowsBytes lent l w table) (length-form x m (length table / w))) (capped-behind (capped (put-step p)) at h s r c)
+
+-- ---- a STRING at the front of a row
+
+abbrev pub stringShape : Shape
+stringShape = field (text (fixed w16 never)) end
+
+module _ (lent : List ℕ) where
+  pub string-bytes : (r : List ℕ) → rowBytes lent stringShape r ≡ behindLength (sizeOf Form.Int16) (slice lent (getD r 0 0, getD r 1 0))
+  unfolding rowBytes bytesAt write writeBasic valueOf pop width basicOf spanOf sizedBytes behindLength
+  string-bytes r = append-nil _ ∙ ap₂ (λ (a b : ℕ). behindLength (sizeOf Form.Int16) (slice lent (a, b))) (getD-take 2 r 0 0 (omega arith)) (getD-take 2 r 1 0 (omega arith))
+
+  -- that of row i of a table
+  pub string-put : (w : ℕ) → 1 < w → (table : List ℕ) (i : ℕ) → i < length table / w → (x : List ℕ) → x ≡ slice lent (getD table (i * w) 0, getD table (i * w + 1) 0) → {d d′ : List ℕ} {n : ℕ} → Put (behindLength (sizeOf Form.Int16) x) d n d′ →
+      Capped (rowBytes lent stringShape (getD (rowsOf w table) i [])) d n d′
+  string-put w v table i h x e p =
+      capped-as
+      (ap (behindLength (sizeOf Form.Int16)) (e ∙ sym (ap₂ (λ (a b : ℕ). slice lent (a, b)) (row-cell w table i h 0 (omega arith) ∙ ap (λ (k : ℕ). getD table k 0) (add-zero (i * w))) (row-cell w table i h 1 v)))
+      ∙ sym (string-bytes (getD (rowsOf w table) i [])))
+      (capped (put-step p))
+
+-- ---- a row of three numbers
+
+abbrev pub numbersShape : Width → Width → Width → Shape
+numbersShape i j k = field (number i) (field (number j) (field (number k) end))
+
+module _ (lent : List ℕ) (i j k : Width) where
+  pub numbers-bytes : (r : List ℕ) → rowBytes lent (numbersShape i j k) r ≡ bytes (size i) (getD r 0 0) ++ (bytes (size j) (getD r 1 0) ++ bytes (size k) (getD r 2 0))
+  unfolding rowBytes bytesAt write writeBasic valueOf pop width basicOf
+  numbers-bytes [] = simp append-nil
+  numbers-bytes (a ∷ []) = simp append-nil
+  numbers-bytes (a ∷ b ∷ []) = simp append-nil
+  numbers-bytes (a ∷ b ∷ c ∷ r) = simp append-nil
+
+  pub numbers-wide : (r : List ℕ) → length (rowBytes lent (numbersShape i j k) r) ≡ size i + (size j + size k)
+  numbers-wide r = simp (numbers-bytes, length-append, length-bytes)
+
+  pub numbers-fault : (r : List ℕ) → rowFault lent (numbersShape i j k) r ≡ unless (holds i (getD r 0 0) && (holds j (getD r 1 0) && holds k (getD r 2 0))) 11
+  unfolding rowFault faultAt fault basicFault valueOf pop width basicOf
+  numbers-fault [] = or-three (holds i 0) (holds j 0) (holds k 0) 10
+  numbers-fault (a ∷ []) = or-three (holds i a) (holds j 0) (holds k 0) 10
+  numbers-fault (a ∷ b ∷ []) = or-three (holds i a) (holds j b) (holds k 0) 10
+  numbers-fault (a ∷ b ∷ c ∷ r) = or-three (holds i a) (holds j b) (holds k c) 10
 
 -- three numbers of i, j and k bytes, as calls with `&mut out[i..]` and `&mut out[i + j..]` leave them
 pub three-put : (i j k a b c : ℕ) {d d₁ e : List ℕ} {n m : ℕ} → i + j ≤ length d → Put (bytes i a) d n d₁ → Put (bytes j b) (midOf i (length d₁ - i) d₁) m e →
@@ -48,14 +121,8 @@ module _ {bs d : List ℕ} {n : ℕ} (w : length bs ≡ n) where
 module _ (b : List ℕ → List ℕ) (k : ℕ) (wide : (r : List ℕ) → length (b r) ≡ k) where
   each-wide : (rs : List (List ℕ)) → length (each b rs) ≡ length rs * k
   unfolding each
-  each-wide [] = none
-    where
-      none : 0 ≡ 0 * k
-      none = omega arith
-  each-wide (r ∷ rs) = length-append (b r) (each b rs) ∙ omega (arith, wide r, each-wide rs, more)
-    where
-      more : suc (length rs) * k ≡ k + length rs * k
-      more = omega arith
+  each-wide [] = let none : 0 ≡ 0 * k = omega arith in none
+  each-wide (r ∷ rs) = let more : suc (length rs) * k ≡ k + length rs * k = omega arith in length-append (b r) (each b rs) ∙ omega (arith, wide r, each-wide rs, more)
 
   pub rows-wide : (w : ℕ) (table : List ℕ) → length (each b (rowsOf w table)) ≡ length table / w * k
   rows-wide w table = each-wide (rowsOf w table) ∙ ap (λ (n : ℕ). n * k) (rows-many w table)
@@ -67,10 +134,7 @@ pub record Even (b : List ℕ → List ℕ) (k w : ℕ) (table d : List ℕ) (i 
 
 module _ {b : List ℕ → List ℕ} {k w : ℕ} {table d : List ℕ} where
   pub even-start : Even b k w table d 0 0 d
-  even-start = record { place = none; walked = walked-start b w table d }
-    where
-      none : 0 ≡ 0 * k
-      none = omega arith
+  even-start = let none : 0 ≡ 0 * k = omega arith in record { place = none; walked = walked-start b w table d }
 
   -- d has just the room of all
   module _ (full : length d ≡ length table / w * k) {i p : ℕ} {d₁ : List ℕ} (a : Even b k w table d i p d₁) where

@@ -33,10 +33,8 @@ module _ (size start n : ℕ) where
 pub range-told : (w at size : ℕ) (table : List ℕ) (i : ℕ) → at + 1 < w → i < length table / w → (p : ℕ) → p ≡ i * w + at → (b : Bool) → b ≡ inside size (getD table p 0) (getD table (p + 1) 0) → b ≡ ranged at size (getD (rowsOf w table) i [])
 unfolding ranged
 range-told w at size table i k h p d b e =
+    let next : i * w + suc at ≡ p + 1 = omega arith in
     e ∙ sym (ap₂ (inside size) (row-cell w table i h at (omega arith) ∙ ap (λ (j : ℕ). getD table j 0) (sym d)) (row-cell w table i h (suc at) (omega arith) ∙ ap (λ (j : ℕ). getD table j 0) next))
-  where
-    next : i * w + suc at ≡ p + 1
-    next = omega arith
 
 -- rows of a kind
 pub kind-told : {row kind : Row} → row ≡ kind → (size : ℕ) (table : List ℕ) (b : Bool) → b ≡ allRanged (widthOf kind) (startOf kind) size table → b ≡ allRanged (widthOf row) (startOf row) size table

@@ -100,3 +100,8 @@ module _ (b x : Bool) where
 
   pub if-lacking : b ≡ false → true ≡ cond b x true
   if-lacking h = sym (rw h)
+
+-- whatever the test says
+pub always : (b : Bool) → cond b true true ≡ true
+always true = refl
+always false = refl

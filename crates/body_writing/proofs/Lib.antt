@@ -1,17 +1,14 @@
 -- 13: ranges and parts of the lent bytes, counts, cells; and of one table and of two, as code checks it
 pub mod Inside
 pub mod Counts
-pub mod Cells
 pub mod Lent
 -- 11 and 7: all rows of a table tested, and faults that all have the same number
 pub mod Judged
 pub mod Faults
 -- rows one by one: what they mean, the first fault, and bytes one after the other; rows that take rows of another table
-pub mod Times
 pub mod Turns
 pub mod Taking
 -- rows as they are written: a text, an array after its number, and null; rows that all have the same number of bytes
-pub mod Rows
 pub mod Even
 -- the bytes and the first fault of what tables mean: rows with no arrays, and rows that end with an array of rows of another table
 pub mod Writes

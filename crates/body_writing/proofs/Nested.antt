@@ -10,18 +10,17 @@ use native.Mathlib.Nat.{add-zero, div-eq-of-lt, div-eq-sub-div}
 use native.Mathlib.Numerals.{add-one}
 use native.Mathlib.Omega.{arith}
 use borrow.Rule.Slice.PartMut.{midOf, putMid}
-use lib.Dec.{eqb, lit<, ltb}
+use lib.Dec.{eqb, lit<}
 use lib.ListN.{drop, getD, length, length-drop, take}
 use lib.Seq.{drop-drop, getD-drop, getD-take, take-all}
 use Rattle.layout.specs.Primitives.{Size, keeps, lengthBytes, minus}
 use Rattle.layout.specs.Rows.{Shape, Value, absent, array, end, field, lacking}
 use Rattle.layout.specs.Tables.{Tables, basicOf, chunks, count, itemsOf, pop, rowWidth, rowsOf, sum, times, valueOf, width}
-use Rattle.layout.specs.Write.{each, firstOf, or, tooLong, unless, write}
+use Rattle.layout.specs.Write.{each, firstOf, or, tooLong, write}
 use Rattle.primitives_put.specs.Step.{Capped, cap}
 use Rattle.body_writing.specs.Writes.{bytesAt, faultAt, countedBytes, itemsBytes, itemsFault, rowBytes, rowFault, rowsBytes, rowsFault, takes}
 use Rattle.layout.proofs.Chunks.{chunks-many, rows-many, rows-part}
-use Rattle.body_reading.proofs.Flat.{Flat}
-use Rattle.body_reading.proofs.Front.{onto}
+use Rattle.body_reading.proofs.Front.{Flat, onto}
 use Rattle.body_writing.proofs.Taking.{Enough, Taking, enough-here, enough-more, enough-start, taking-end, taking-enough, taking-more, taking-start}
 use Rattle.body_writing.proofs.Turns.{or-first, or-second}
 use Rattle.body_writing.proofs.Writes.{array-bytes, array-fault, flat-bytes, flat-fault, flat-items, flat-value, joined-bytes, joined-fault}
@@ -53,10 +52,8 @@ module _ (lent : List ℕ) (z : Size) (i : Shape) (f : Flat i) (w : ℕ) (q : ro
   later : (j k n : ℕ) → n ≡ j + k → (own items others : List ℕ) → _≡_ {A = Tables} (own ∷ drop (suc k) (drop j items) ∷ drop (takes w k (drop j items)) others ∷ []) (own ∷ drop (suc n) items ∷ drop (takes w n items) others ∷ [])
   unfolding takes
   later j k n e own items others =
+      let next : j + suc k ≡ suc n = omega arith in
       ap₂ (λ (x : List ℕ) (c : ℕ). own ∷ x ∷ drop (count c * w) others ∷ []) (drop-drop (suc k) j items ∙ ap (λ (m : ℕ). drop m items) next) (getD-drop j items k 0 ∙ ap (λ (m : ℕ). getD items m 0) (sym e))
-    where
-      next : j + suc k ≡ suc n
-      next = omega arith
 
   pub nested : (p : Shape) → Flat p → (own items others : List ℕ) → valueOf lent (row p) 1 (own ∷ items ∷ others ∷ []) ≡ (meaning p items others, own ∷ drop (suc (rowWidth p)) items ∷ drop (takes w (rowWidth p) items) others ∷ [])
   unfolding valueOf pop rowWidth takes
@@ -198,10 +195,9 @@ module _ (x : Nest) (lent : List ℕ) where
 
         split : faults left free ≡ or (faultAt lent l 1 ([] ∷ left ∷ free ∷ [])) (faults (drop (suc n) left) (drop (takes w n left) free))
         unfolding itemsFault faultAt times firstOf
-        split = rw (next, one [] left free)
-          where
-            next : length left / suc n ≡ suc (length (drop (suc n) left) / suc n)
-            next = div-eq-sub-div (omega arith) h ∙ add-one ((length left - suc n) / suc n) ∙ ap (λ (j : ℕ). suc (j / suc n)) (sym (length-drop (suc n) left))
+        split =
+            let next : length left / suc n ≡ suc (length (drop (suc n) left) / suc n) = div-eq-sub-div (omega arith) h ∙ add-one ((length left - suc n) / suc n) ∙ ap (λ (j : ℕ). suc (j / suc n)) (sym (length-drop (suc n) left)) in
+            rw (next, one [] left free)
 
         module _ (e : ℕ) (f : e ≡ faultAt lent l 1 ([] ∷ left ∷ free ∷ [])) where
           pub clearing-stop : e ≢ 0 → e ≡ faults items others

@@ -13,15 +13,12 @@ use Rattle.layout.specs.Write.{each}
 use Rattle.primitives_put.specs.Step.{Capped, cap}
 use Rattle.primitives_put.proofs.Capped.{capped-all, capped-as, capped-next, capped-none}
 use Rattle.layout.proofs.Chunks.{rows-first}
-use Rattle.body_writing.proofs.Times.{behind, behind-next, behind-none, times-at, times-many}
+use Rattle.body_writing.proofs.Turns.{behind, behind-next, behind-none, times-at, times-many}
 
 -- rows that tell so many rows of k cells each
 pub sum-cells : (g : List ℕ → ℕ) (k : ℕ) (rs : List (List ℕ)) → sum (λ r. g r * k) rs ≡ sum g rs * k
 unfolding sum
-sum-cells g k [] = none
-  where
-    none : 0 ≡ 0 * k
-    none = omega arith
+sum-cells g k [] = let none : 0 ≡ 0 * k = omega arith in none
 sum-cells g k (r ∷ rs) = ap (λ (n : ℕ). g r * k + n) (sum-cells g k rs) ∙ sym (add-mul (g r) (sum g rs) k)
 
 -- ---- what rows of w cells take of another table is there
@@ -63,18 +60,13 @@ module _ {A : Type 0} (w : ℕ) (k : List ℕ → ℕ) (g : Tables → A × Tabl
   -- the tables behind n rows
   pub taken-state : ((items : List ℕ) → k (take w items) ≡ k items) → (n : ℕ) (own items others : List ℕ) → times n g (own ∷ items ∷ others ∷ []) .1 ≡ own ∷ drop (n * w) items ∷ drop (sum k (chunks n w items)) others ∷ []
   unfolding times chunks sum
-  taken-state first zero own items others = ap (λ (j : ℕ). own ∷ drop j items ∷ others ∷ []) none
-    where
-      none : 0 ≡ 0 * w
-      none = omega arith
+  taken-state first zero own items others = let none : 0 ≡ 0 * w = omega arith in ap (λ (j : ℕ). own ∷ drop j items ∷ others ∷ []) none
   taken-state first (suc n) own items others =
+      let next : w + n * w ≡ suc n * w = omega arith in
       ap (λ (x : A × Tables). times n g (x .1) .1) (one own items others)
       ∙ taken-state first n own (drop w items) (drop (k items) others)
       ∙ ap₂ (λ (x y : List ℕ). own ∷ x ∷ y ∷ []) (drop-drop (n * w) w items ∙ ap (λ (j : ℕ). drop j items) next)
       (drop-drop (sum k (chunks n w (drop w items))) (k items) others ∙ ap (λ (j : ℕ). drop (j + sum k (chunks n w (drop w items))) others) (sym (first items)))
-    where
-      next : w + n * w ≡ suc n * w
-      next = omega arith
 
   -- ---- the loop: t is told of a row's cells in `others`, and no more are taken
 

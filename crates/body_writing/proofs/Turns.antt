@@ -1,11 +1,10 @@
--- The rows of a table one by one, as a loop takes them: what they mean, the first fault, at which it stops, and the bytes of each behind those of the row before.
--- For all widths, and for whatever is made of a row.
+-- Rows one by one, as a loop takes them: the tables behind so many of them, what they mean, the first fault, at which it stops, and the bytes of each behind those of the row before.
+use mathlib.Core.Path.{_∙_, _≡_, ap, ap₂, refl, sym}
 use mathlib.Core.List.{List, [], _++_, _∷_, map}
 use mathlib.Core.Logic.{_≢_}
-use mathlib.Core.Path.{_∙_, _≡_, ap, ap₂, refl, sym}
 use Prim.Native.Nat.{_*_, _+_, _-_, _/_, _<_, _≤_, min, suc, zero, ℕ}
-use native.Mathlib.Numerals.{add-one}
 use native.Mathlib.Omega.{arith}
+use native.Mathlib.Numerals.{add-one}
 use lib.ListN.{drop, drop-of-length-le, getD, length, length-set, set, take}
 use lib.Seq.{drop-cons, drop-drop, getD-set-same, set-getD, set-set}
 use borrow.Rule.Slice.PartMut.{midOf, putMid}
@@ -14,6 +13,35 @@ use Rattle.layout.specs.Write.{each, firstOf, or}
 use Rattle.primitives_put.specs.Step.{Capped, cap}
 use Rattle.primitives_put.proofs.Capped.{capped-all, capped-next, capped-none}
 use Rattle.layout.proofs.Chunks.{rows-many}
+
+module _ {A : Type 0} (g : Tables → A × Tables) where
+  -- the tables behind n items
+  unfoldable pub behind : ℕ → Tables → Tables
+  behind zero st = st
+  behind (suc n) st = behind n (g st .1)
+
+  pub times-many : (n : ℕ) (st : Tables) → length (times n g st .0) ≡ n
+  unfolding times
+  times-many zero st = refl
+  times-many (suc n) st = ap suc (times-many n (g st .1))
+
+  pub times-at : (n : ℕ) (st : Tables) (i : ℕ) (z : A) → i < n → getD (times n g st .0) i z ≡ g (behind i st) .0
+  unfolding times behind
+  times-at zero st i z h = absurd (omega arith)
+  times-at (suc n) st zero z h = refl
+  times-at (suc n) st (suc i) z h = times-at n (g st .1) i z (omega arith)
+
+  pub behind-none : (st : Tables) → behind 0 st ≡ st
+  unfolding behind
+  behind-none st = refl
+
+  suc-next : (i : ℕ) (st : Tables) → behind (suc i) st ≡ g (behind i st) .1
+  unfolding behind
+  suc-next zero st = refl
+  suc-next (suc i) st = suc-next i (g st .1)
+
+  pub behind-next : (i : ℕ) (st : Tables) → behind (i + 1) st ≡ g (behind i st) .1
+  behind-next i st = rw add-one (suc-next i st)
 
 -- the first of two faults, and the second where the first is none
 pub or-first : (a b e : ℕ) → e ≡ a → e ≢ 0 → e ≡ or a b
@@ -31,11 +59,9 @@ or-second (suc a) b e i h = absurd (omega arith)
 module _ {A : Type 0} (w o : ℕ) (g : Tables → A × Tables) (m : List ℕ → A) (one : (st : Tables) → o < length st → g st ≡ (m (take w (getD st o [])), set st o (drop w (getD st o [])))) where
   pub times-rows : (n : ℕ) (st : Tables) → o < length st → times n g st ≡ (map m (chunks n w (getD st o [])), set st o (drop (n * w) (getD st o [])))
   unfolding times chunks
-  times-rows zero st h = λ i. ([], (sym (set-getD st o []) ∙ ap (λ (k : ℕ). set st o (drop k (getD st o []))) none) i)
-    where
-      none : 0 ≡ 0 * w
-      none = omega arith
+  times-rows zero st h = let none : 0 ≡ 0 * w = omega arith in λ i. ([], (sym (set-getD st o []) ∙ ap (λ (k : ℕ). set st o (drop k (getD st o []))) none) i)
   times-rows (suc n) st h =
+      let next : w + n * w ≡ suc n * w = omega arith in
       let cs : List ℕ = getD st o [] in
       let su : Tables = set st o (drop w cs) in
       let e : getD su o [] ≡ drop w cs = getD-set-same st o (drop w cs) [] h in
@@ -45,9 +71,6 @@ module _ {A : Type 0} (w o : ℕ) (g : Tables → A × Tables) (m : List ℕ →
       ∙ (λ i. (map m (chunks n w (drop w cs)), (set-set st o (drop w cs) (drop (n * w) (drop w cs)) ∙ ap (set st o) (drop-drop (n * w) w cs ∙ ap (λ (k : ℕ). drop k cs) next)) i))
       in
       rw (one st h) (λ i. (m (take w cs) ∷ r i .0, r i .1))
-    where
-      next : w + n * w ≡ suc n * w
-      next = omega arith
 
 -- ---- a list of values, each made of a row: their bytes and their first fault
 

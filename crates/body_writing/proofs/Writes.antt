@@ -6,7 +6,7 @@ use mathlib.Core.Option.{none, some}
 use mathlib.Core.Path.{_∙_, _≡_, ap, ap₂, refl, sym}
 use Prim.Native.Nat.{_*_, _+_, _/_, _<_, suc, zero, ℕ}
 use native.Mathlib.Omega.{arith}
-use lib.Dec.{eqb, lit<, ltb}
+use lib.Dec.{eqb, lit<}
 use lib.ListN.{drop, getD, length, length-set, set, take}
 use lib.Seq.{drop-drop, getD-set-other, getD-set-same, getD-take, set-getD, set-set, take-take}
 use Rattle.layout.specs.Primitives.{Size, compact, fixed, keeps, lengthBytes, minus, nullBytes, plain, sizedBytes, w16, w32, w64, w8}
@@ -16,10 +16,8 @@ use Rattle.layout.specs.Write.{basicFault, each, fault, firstOf, or, sizedFault
 use Rattle.body_writing.specs.Writes.{bytesAt, countedBytes, faultAt, itemsBytes, itemsFault, refusalOf, rowBytes, rowFault, rowsBytes}
 use Rattle.layout.proofs.Chunks.{drop-take}
 use Rattle.body_writing.proofs.Faults.{or-none}
-use Rattle.body_reading.proofs.Flat.{Flat}
-use Rattle.body_reading.proofs.Front.{onto}
-use Rattle.body_writing.proofs.Times.{times-many}
-use Rattle.body_writing.proofs.Turns.{each-map, first-map, times-rows}
+use Rattle.body_reading.proofs.Front.{Flat, onto}
+use Rattle.body_writing.proofs.Turns.{each-map, first-map, times-many, times-rows}
 
 none-long : (z : Size) → tooLong z 0 ≡ 0
 unfolding tooLong unless
@@ -53,12 +51,10 @@ module _ (lent : List ℕ) where
 
     behind : (j : ℕ) → j ≡ w + rowWidth r → valueOf lent r o (set st o (drop w cs)) ≡ (rowValue r (drop w (take j cs)), set st o (drop j cs))
     behind j e =
+        let same : getD (set st o (drop w cs)) o [] ≡ drop w cs = getD-set-same st o (drop w cs) [] h in
         rec
         ∙ (λ i. (rowValue r (take (rowWidth r) (same i)), set (set st o (drop w cs)) o (drop (rowWidth r) (same i))))
         ∙ (λ i. (rowValue r (sym (drop-take w (rowWidth r) j e cs) i), (set-set st o (drop w cs) (drop (rowWidth r) (drop w cs)) ∙ ap (set st o) (drop-drop (rowWidth r) w cs ∙ ap (λ (n : ℕ). drop n cs) (sym e))) i))
-      where
-        same : getD (set st o (drop w cs)) o [] ≡ drop w cs
-        same = getD-set-same st o (drop w cs) [] h
 
   pub flat-value : (l : Shape) → Flat l → (o : ℕ) (st : Tables) → o < length st → valueOf lent l o st ≡ (rowValue l (take (rowWidth l) (getD st o [])), set st o (drop (rowWidth l) (getD st o [])))
   unfolding valueOf pop rowWidth

@@ -1,12 +1,11 @@
 -- Primitives by themselves: what they refuse is fair, read or written. A primitive stands as the first field of some shape, and the reader of that shape refuses as it does.
 use mathlib.Core.Bool.{Bool, cond, false, true}
-use mathlib.Core.List.{List, [], _++_}
+use mathlib.Core.List.{List, []}
 use mathlib.Core.Option.{Option, none, some}
 use mathlib.Core.Path.{_∙_, _≡_, ap, refl, subst}
-use Prim.Native.Nat.{_^_, _≤_, suc, zero, ℕ}
+use Prim.Native.Nat.{_^_, _≤_, ℕ}
 use native.Mathlib.Omega.{arith}
 use lib.Dec.{eqb, leb, ltb}
-use lib.IntN.{ℤ}
 use lib.ListN.{getElem?, length}
 use Rattle.layout.specs.Reading.{Reader, Refusal, Res, bad, because, fail, give, next, ok, pick, placed, primitive, then}
 use Rattle.layout.specs.Primitives as Kafka
@@ -15,23 +14,19 @@ use Rattle.layout.specs.Read.{byPlace, readBasic}
 use Rattle.layout.specs.Rows.{Basic, array, end, field}
 use Rattle.layout.specs.Rows as Rows
 use Rattle.layout.specs.Tables.{Tables, readRows}
-use Rattle.layout.specs.Write.{basicFault, unless}
-use Rattle.layout.specs.Answers.{Answer, accepted, alone, most, offered, refused, stored, writeAlone}
+use Rattle.layout.specs.Answers.{Answer, alone, most, offered, writeAlone}
 use Rattle.layout.proofs.Refusals.{Told, tells-rows}
+use Rattle.layout.proofs.Steps.{then-bad}
 use Rattle.primitives.specs.Parts.{counted}
 use Rattle.primitives_put.specs.Answers.{countFault}
 use Rattle.gateway_primitives.specs.Kinds.{Primitive, blob, boolean, count, given, integer, kinds, readIf, readKind, readOf, shown, text, unsigned, varint, varlong, writeIf, writeKind, writeOf}
 use Rattle.demands.specs.Refusals.{Answered, Fair}
-use Rattle.demands.proofs.Faults.{at-zero, basic-most, unless-most, stored-answered}
+use Rattle.demands.proofs.Faults.{at-zero, basic-most, of-offered, stored-answered, unless-most}
 
 -- ---- read
 
 abbrev skip : ℕ → List ℕ → List ℕ → List ℕ
 skip t cs st = st
-
-then-bad : {A B : Type 0} (r : Reader A) (f : A → Reader B) (s : List ℕ) (e : Refusal) → r 0 s ≡ bad e → then r f 0 s ≡ bad e
-unfolding then
-then-bad r f s e h = ap (λ (o : Res _). next o f 0 s) h
 
 given-bad : {A B : Type 0} (r : Reader A) (g : A → B) (s : List ℕ) (e : Refusal) → then r (λ x. give (g x)) 0 s ≡ bad e → r 0 s ≡ bad e
 unfolding then give
@@ -43,7 +38,7 @@ given-bad {A} {B} r g s e h = go (r 0 s) refl h
 
 basic-told : (k : Basic) (s : List ℕ) (e : Refusal) → readBasic (byPlace false) k 0 s ≡ bad e → Told 0 s e
 unfolding readRows
-basic-told k s e h = tells-rows false skip (field k end) 0 [] .law 0 s e (then-bad (readBasic (byPlace false) k) _ s e h)
+basic-told k s e h = tells-rows false skip (field k end) 0 [] .law 0 s e (then-bad (readBasic (byPlace false) k) _ 0 s e h)
 
 fair-told : (s : List ℕ) (e : Refusal) → Told 0 s e → Fair (length s) e
 fair-told s e t = record { least = (let h = t .least in omega arith); greatest = (let h = t .greatest in omega arith); place-in = (let h = t .before-end in omega arith); no-need = λ n. t .no-need }
@@ -57,7 +52,7 @@ fair-basic k s e h = fair-told s e (basic-told k s e h)
 
 cell-bad : (w : Width) (s : List ℕ) (e : Refusal) → int (size w) 0 s ≡ bad e → readBasic (byPlace false) (Rows.number w) 0 s ≡ bad e
 unfolding readBasic cell
-cell-bad w s e h = then-bad (int (size w)) (λ n. give (Kafka.cellOf (signed w n))) s e h
+cell-bad w s e h = then-bad (int (size w)) (λ n. give (Kafka.cellOf (signed w n))) 0 s e h
 
 fair-integer : (w : Width) → FairRead (Kafka.integer w)
 unfolding Kafka.integer
@@ -93,7 +88,7 @@ fair-varint s e h = go (Kafka.unsigned 0 s) refl h
 
 count-told : (z : Size) (s : List ℕ) (e : Refusal) → checked (admits false z) (refusal z) (lengthOf Kafka.unsigned z) 0 s ≡ bad e → Told 0 s e
 unfolding readRows
-count-told z s e h = tells-rows false skip (array z 1 end end) 0 [] .law 0 s e (then-bad (checked (admits false z) (refusal z) (lengthOf Kafka.unsigned z)) _ s e h)
+count-told z s e h = tells-rows false skip (array z 1 end end) 0 [] .law 0 s e (then-bad (checked (admits false z) (refusal z) (lengthOf Kafka.unsigned z)) _ 0 s e h)
 
 fair-count : (z : Size) → FairRead (counted z)
 unfolding counted checked primitive then give fail pick
@@ -155,15 +150,7 @@ count-most z null n = unless-most (cond null true (ltb n (limit z))) 2 11 (omega
 
 write-alone : (f : ℕ) → f ≤ 11 → (bs out : List ℕ) → Answered 0 out (writeAlone f bs out .1) (writeAlone f bs out .0)
 unfolding writeAlone
-write-alone f h bs out = stored-answered out (offered f bs) (go f h)
-  where
-    at-size : (e : Refusal) (c : Bool) → cond c (ok bs (length bs)) (bad (because 2 0)) ≡ bad e → Fair 0 e
-    at-size e true h = let z : _≡_ {A = ℕ} 0 1 = cc in absurd (omega arith)
-    at-size e false h = let x : because 2 0 ≡ e = cc in subst (Fair 0) x (at-zero 2 (omega arith) (omega arith))
-
-    go : (f : ℕ) → f ≤ 11 → (e : Refusal) → offered f bs ≡ bad e → Fair 0 e
-    go zero h e d = at-size e (leb (length bs) most) d
-    go (suc f) h e d = let x : because (suc f) 0 ≡ e = cc in subst (Fair 0) x (at-zero (suc f) (omega arith) (omega arith))
+write-alone f h bs out = stored-answered out (offered f bs) (of-offered f h bs)
 
 write-of : (p : Primitive) (null : Bool) (c : ℕ) (x out : List ℕ) → Answered 0 out (writeOf p null c x out .1) (writeOf p null c x out .0)
 unfolding writeOf

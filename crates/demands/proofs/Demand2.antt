@@ -6,7 +6,7 @@ use mathlib.Core.Option.{none}
 use mathlib.Core.Path.{_∙_, _≡_, ap, refl, subst, sym}
 use Prim.Native.Nat.{_≤_, suc, ℕ}
 use native.Mathlib.Omega.{arith}
-use lib.IntN.{ℤ, negsuc, pos}
+use lib.IntN.{pos}
 use lib.ListN.{drop, getD, length, replicate}
 use Rattle.layout.specs.Reading.{Refusal, ok}
 use Rattle.layout.specs.Rows.{Value}
@@ -36,10 +36,6 @@ use Rattle.demands.specs.Refusals.{Answered}
 use Rattle.demands.proofs.Demand1.{read-answered}
 use Rattle.demands.proofs.Faults.{write-answered}
 
-abbrev natOf : ℤ → ℕ
-natOf (pos n) = n
-natOf (negsuc n) = 0
-
 -- ---- reading
 
 module _ (m : Message) (h : proper m ≡ true) (w : Bool) (v : ℕ) (s : List ℕ) where
@@ -48,7 +44,7 @@ module _ (m : Message) (h : proper m ≡ true) (w : Bool) (v : ℕ) (s : List �
   says room row n after e =
       let c = read-inv m (pos v) s room w row n after e in
       let d = seen-inv w m (pos v) s (c .st) n (c .is-seen) in
-      let x : d .version ≡ v = sym (ap natOf (d .is)) in
+      let x : d .version ≡ v = (let i = d .is in cc) in
       let known : v ≤ m .last = subst (λ (k : ℕ). k ≤ m .last) x (d .known) in
       let reads : readRows w append (shape m v) 0 (replicate (suc (m .tables)) []) 0 s ≡ ok (c .st) n = subst (λ (k : ℕ). readRows w append (shape m k) 0 (replicate (suc (m .tables)) []) 0 s ≡ ok (c .st) n) x (d .reads) in
       let short : length s ≤ most = d .short in
@@ -77,7 +73,7 @@ module _ (m : Message) (v : ℕ) (lent : List ℕ) (st : Tables) (out : List ℕ
   written-bytes r n after e =
       let c = write-inv m (pos v) lent st out r n after e in
       let d = made-inv m (pos v) lent st (c .bs) n (c .is-made) in
-      let x : d .version ≡ v = sym (ap natOf (d .is)) in
+      let x : d .version ≡ v = (let i = d .is in cc) in
       let b : c .bs ≡ bytesOf m v lent st = subst (λ (k : ℕ). c .bs ≡ bytesOf m k lent st) x (d .bytes-are) in
       (c .after-is ∙ ap (λ (bs : List ℕ). bs ++ drop n out) b, d .size-is ∙ ap length b)
 
@@ -102,8 +98,7 @@ module _ {N : Type 0} (F : Answer → N) (number : N → ℕ) (refusal : (e : Re
       go (refused e, su) d p a =
           let x : number r ≡ e .number = ap (λ (y : N × Tables). number (y .0)) p ∙ refusal e in
           let f = subst (λ (o : Answer × Tables). Answered (length s) room (o .1) (o .0)) d a in
-          let l : 1 ≤ e .number = f .0 .least in
-          absurd (omega arith)
+          absurd (omega (arith, f .0 .least))
 
   -- and the other direction
   pub told-taken : (m : Message) (w : Bool) (v : ℕ) (s : List ℕ) (n : ℕ) (x : Value (List ℕ) (shape m v)) (t : Taken w m v s n x) (room after : Tables) (r : N) → needed (widths m) (drop 1 (t .rows)) room ≡ none →
@@ -147,5 +142,4 @@ written m v lent st out after r p z = go (writeAnswer m (pos v) lent st out) ref
     go (refused e, bs) d p a =
         let x : r .number ≡ e .number = ap (λ (y : Numbers × List ℕ). y .0 .number) p in
         let f = subst (λ (o : Answer × List ℕ). Answered 0 out (o .1) (o .0)) d a in
-        let l : 1 ≤ e .number = f .0 .least in
-        absurd (omega arith)
+        absurd (omega (arith, f .0 .least))

@@ -10,16 +10,17 @@ use mathlib.Core.Path.{_∙_, _≡_, ap, refl, subst, sym}
 use Prim.Native.Nat.{_/_, _<_, _^_, _≤_, suc, zero, ℕ}
 use native.Mathlib.Omega.{arith}
 use lib.Dec.{eqb, lit<, ltb}
-use lib.IntN.{ℤ, negsuc, pos}
+use lib.IntN.{pos}
 use lib.ListN.{drop, getD, length, length-map, take}
 use Rattle.layout.specs.Reading.{Refusal}
 use Rattle.layout.specs.Primitives.{minus}
 use Rattle.layout.specs.Rows.{Shape, at, standing, stands, tagRows}
-use Rattle.layout.specs.Tables.{Tables, arrays, chunks, from, good, goodCells, goodCount, goodRow, kindIn, kindOf, rowWidth, rowsAt, rowsOf, width}
+use Rattle.layout.specs.Tables.{Tables, chunks, good, goodCells, goodCount, goodRow, kindOf, rowWidth, rowsAt, rowsOf, width}
 use Rattle.layout.specs.Answers.{Answer, accepted, laid, needed, refused, shape, wholeRead, widths}
 use Rattle.layout.specs.Messages.ApiVersions as Api
 use Rattle.layout.specs.Settled.{Back, Shown, settledRow, shownRow}
 use Rattle.layout.proofs.Calls.{made-inv, read-answer, seen-inv, tables-are, write-inv}
+use Rattle.layout.proofs.Chunks.{rows-many}
 use Rattle.layout.proofs.Contents as Contents
 use Rattle.layout.proofs.Contents.{Holds, row-width, rows-back, rows-wide, rowsIn}
 use Rattle.layout.proofs.Demand3.{written-once}
@@ -34,6 +35,7 @@ use Rattle.api_versions_response.specs.Answers.{ofResponse}
 use Rattle.api_versions_response.specs.declared.ResponseBody.{ResponseBody}
 use Rattle.api_versions_response.specs.declared.ResponseReply.{ResponseReply}
 use Rattle.api_versions_response.proofs.FearedNight.{one-layout}
+use Rattle.api_versions_response.proofs.Replies.{row-widths}
 use Rattle.api_versions_response.proofs.Unique.{response-unique, said}
 use Rattle.demands.specs.Returned.{bodyBack, itemBack, joined, onto, tagShown, tagsKept}
 use Rattle.demands.specs.Responses.{Accepts, CameBack, Pair, Refuses, Room, WholeRead, Writes, layout}
@@ -84,22 +86,9 @@ items-set size st h =
     go y true e = sym e
     go y false e = refl
 
-widths-four : widths Api.response ≡ 4 ∷ 3 ∷ []
-unfolding widths from kindOf kindIn arrays shape at stands standing tagRows Api.responseRows Api.keyRows rowWidth width
-widths-four = refl
-
 fits : (s t r q : List ℕ) → length s / 4 ≤ length r / 4 → length t / 3 ≤ length q / 3 → needed (4 ∷ 3 ∷ []) (s ∷ t ∷ []) (r ∷ q ∷ []) ≡ none
 unfolding needed
 fits s t r q a b = rw (le-true _ _ a, le-true _ _ b)
-
-length-chunks : (n w : ℕ) (cs : List ℕ) → length (chunks n w cs) ≡ n
-unfolding chunks
-length-chunks zero w cs = refl
-length-chunks (suc n) w cs = ap suc (length-chunks n w (drop w cs))
-
-length-rows : (w : ℕ) (cs : List ℕ) → length (rowsOf w cs) ≡ length cs / w
-unfolding rowsOf
-length-rows w cs = length-chunks (length cs / w) w cs
 
 -- tags, where the version has them; and none where it lacks them
 tags-same : (v : ℕ) → v ≤ 3 → (lent bs : List ℕ) (st su : Tables) →
@@ -121,10 +110,6 @@ tags-same (suc (suc (suc (suc v)))) h lent bs st su tags no-tags = absurd (omega
 joined-same : (rs : List (List ℕ)) → Contents.joined rs ≡ joined rs
 joined-same [] = refl
 joined-same (r ∷ rs) = ap (λ (cs : List ℕ). r ++ cs) (joined-same rs)
-
-abbrev natOf : ℤ → ℕ
-natOf (pos n) = n
-natOf (negsuc n) = 0
 
 module _ (out : List ℕ) (v : ℕ) (lent : List ℕ) (b : ResponseBody) (tables : Pair) (n : ℕ) (after : List ℕ) (e : Writes out v lent b tables (Written.Wrote n) after) where
   abbrev st : Tables
@@ -181,11 +166,11 @@ module _ (out : List ℕ) (v : ℕ) (lent : List ℕ) (b : ResponseBody) (tables
         let s1 = getD su 1 [] in
         let s2 = getD su 2 [] in
         let d : drop 1 su ≡ s1 ∷ s2 ∷ [] = ap (drop 1) (three su (B .rows .tables)) in
-        let j : length s1 / 4 ≡ length (rowsOf 4 (tables .0)) = sym (length-rows 4 s1) ∙ ap length items-are ∙ length-map (rowsOf 4 (tables .0)) (itemBack v) in
+        let j : length s1 / 4 ≡ length (rowsOf 4 (tables .0)) = sym (rows-many 4 s1) ∙ ap length items-are ∙ length-map (rowsOf 4 (tables .0)) (itemBack v) in
         let k : length s2 / 3 ≡ length (tagsKept v (rowsOf 3 (tables .1))) =
-        sym (length-rows 3 s2) ∙ sym (length-map (rowsOf 3 s2) (tagShown body)) ∙ ap length tags-are ∙ length-map (tagsKept v (rowsOf 3 (tables .1))) (tagShown lent) in
+        sym (rows-many 3 s2) ∙ sym (length-map (rowsOf 3 s2) (tagShown body)) ∙ ap length tags-are ∙ length-map (tagsKept v (rowsOf 3 (tables .1))) (tagShown lent) in
         let f : needed (widths Api.response) (drop 1 su) (room .0 ∷ room .1 ∷ []) ≡ none =
-        (λ i. needed (widths-four i) (d i) (room .0 ∷ room .1 ∷ [])) ∙ fits s1 s2 (room .0) (room .1) (subst (λ (u : ℕ). u ≤ length (room .0) / 4) (sym j) (r .0)) (subst (λ (u : ℕ). u ≤ length (room .1) / 3) (sym k) (r .1)) in
+        (λ i. needed (row-widths i) (d i) (room .0 ∷ room .1 ∷ [])) ∙ fits s1 s2 (room .0) (room .1) (subst (λ (u : ℕ). u ≤ length (room .0) / 4) (sym j) (r .0)) (subst (λ (u : ℕ). u ≤ length (room .1) / 3) (sym k) (r .1)) in
         let y : ResponseReply × Pair = (ResponseReply.Took (bodyBack v b) (length body), (onto s1 (room .0), onto s2 (room .1))) in
         let q : said x ≡ (accepted (getD su 0 []) (length body), laid (drop 1 su) (room .0 ∷ room .1 ∷ [])) =
         p ∙ read-answer Api.response (pos v) body (room .0 ∷ room .1 ∷ []) true su (length body) (B .is-seen) f in
@@ -207,7 +192,7 @@ module _ (out : List ℕ) (v : ℕ) (lent : List ℕ) (b : ResponseBody) (tables
       let o = write-inv Api.response (pos v) lent st out [] n after (sym e) in
       let m = made-inv Api.response (pos v) lent st (o .bs) n (o .is-made) in
       let s = seen-inv true Api.response (pos v) body (B .su) (length body) (B .is-seen) in
-      let i : s .version ≡ v = sym (ap natOf (s .is)) in
+      let i : s .version ≡ v = (let j = s .is in cc) in
       came-back B (m .good-tables) (subst (λ (k : ℕ). Holds true (shape Api.response k) body (length body) (B .su)) i (tables-are Api.response api-response true (pos v) body (B .su) (length body) s))
 
   -- and the other two layouts refuse it, with one refusal whatever tables are lent, and leave these as they were

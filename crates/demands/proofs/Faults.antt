@@ -74,6 +74,15 @@ at-zero n a b = record { least = a; greatest = b; place-in = omega arith; no-nee
 is-bad : {A : Type 0} (n : ℕ) (e : Refusal) → 1 ≤ n → n ≤ 13 → _≡_ {A = Res A} (bad (because n 0)) (bad e) → Fair 0 e
 is-bad n e a b h = let x : because n 0 ≡ e = cc in subst (Fair 0) x (at-zero n a b)
 
+-- what is offered: 2 where it is too long, and else its first fault
+pub of-offered : (f : ℕ) → f ≤ 11 → (bs : List ℕ) (e : Refusal) → offered f bs ≡ bad e → Fair 0 e
+of-offered zero g bs e h = at-size (leb (length bs) most) h
+  where
+    at-size : (c : Bool) → cond c (ok bs (length bs)) (bad (because 2 0)) ≡ bad e → Fair 0 e
+    at-size true h = let z : _≡_ {A = ℕ} 0 1 = cc in absurd (omega arith)
+    at-size false h = is-bad 2 e (omega arith) (omega arith) h
+of-offered (suc f) g bs e h = is-bad (suc f) e (omega arith) (omega arith) h
+
 of-made : (m : Message) (v : ℤ) (lent : List ℕ) (st : Tables) (e : Refusal) → made m v lent st ≡ bad e → Fair 0 e
 unfolding made
 of-made m (negsuc v) lent st e h = is-bad 1 e (omega arith) (omega arith) h
@@ -82,16 +91,8 @@ of-made m (pos v) lent st e h = at-version (leb v (m .last)) h
     l : Shape
     l = shape m v
 
-    at-size : (bs : List ℕ) (c : Bool) → cond c (ok bs (length bs)) (bad (because 2 0)) ≡ bad e → Fair 0 e
-    at-size bs true h = let z : _≡_ {A = ℕ} 0 1 = cc in absurd (omega arith)
-    at-size bs false h = is-bad 2 e (omega arith) (omega arith) h
-
-    at-fault : (f : ℕ) → f ≤ 11 → (bs : List ℕ) → offered f bs ≡ bad e → Fair 0 e
-    at-fault zero g bs h = at-size bs (leb (length bs) most) h
-    at-fault (suc f) g bs h = is-bad (suc f) e (omega arith) (omega arith) h
-
     at-tables : (c : Bool) → cond c (offered (fault l (meant lent st l)) (body lent st l)) (bad (because 13 0)) ≡ bad e → Fair 0 e
-    at-tables true h = at-fault (fault l (meant lent st l)) (fault-most l (meant lent st l)) (body lent st l) h
+    at-tables true h = of-offered (fault l (meant lent st l)) (fault-most l (meant lent st l)) (body lent st l) e h
     at-tables false h = is-bad 13 e (omega arith) (omega arith) h
 
     at-version : (c : Bool) → cond c (judgedGood m lent st (offered (fault l (meant lent st l)) (body lent st l))) (bad (because 1 0)) ≡ bad e → Fair 0 e

@@ -1,17 +1,19 @@
 -- The rows of an ApiVersions response, shown and settled, in numbers.
 use mathlib.Core.Bool.{false}
 use mathlib.Core.List.{List, [], _++_, _∷_}
-use mathlib.Core.Path.{_≡_, refl}
-use Prim.Native.Nat.{_≤_, suc, zero, ℕ}
+use mathlib.Core.Path.{_∙_, _≡_, refl}
+use Prim.Native.Nat.{_≤_, ℕ}
 use native.Mathlib.Omega.{arith}
-use lib.Dec.{eqb}
-use lib.ListN.{drop, getD, length, take}
+use lib.Dec.{eqb, lit<}
+use lib.ListN.{drop, getD, length}
+use lib.Seq.{getD-drop, getD-take}
 use Rattle.layout.specs.Primitives.{minus}
 use Rattle.layout.specs.Rows.{at, standing, stands, tagRows}
 use Rattle.layout.specs.Tables.{arrays, kindIn, kindOf, rowWidth, width}
 use Rattle.layout.specs.Answers.{shape}
 use Rattle.layout.specs.Messages.ApiVersions as Api
 use Rattle.layout.specs.Settled.{Shown, gone, goneCount, num, part, settledCells, settledCount, settledRow, settledSpan, shownCells, shownRow, shownSpan}
+use Rattle.primitives.proofs.Versions.{up-to}
 use Rattle.body_reading.specs.Cells.{versionedCells}
 use Rattle.body_reading.specs.declared.versioned.Versioned.{Versioned}
 use Rattle.demands.specs.Returned.{itemBack, tagShown, tagsBack, throttleBack}
@@ -32,11 +34,7 @@ nums (x ∷ xs) = numOf x ∷ nums xs
 
 own-nums : (bs : List ℕ) (v : ℕ) → v ≤ 3 → (a b c d e : ℕ) → nums (shownRow bs (shape Api.response v) (a ∷ b ∷ c ∷ d ∷ e ∷ [])) ≡ a ∷ b ∷ c ∷ d ∷ e ∷ []
 unfolding shape at stands standing tagRows Api.responseRows Api.keyRows shownRow shownCells width
-own-nums bs zero h a b c d e = refl
-own-nums bs (suc zero) h a b c d e = refl
-own-nums bs (suc (suc zero)) h a b c d e = refl
-own-nums bs (suc (suc (suc zero))) h a b c d e = refl
-own-nums bs (suc (suc (suc (suc v)))) h a b c d e = absurd (omega arith)
+own-nums bs v h a b c d e = up-to 3 (λ v. nums (shownRow bs (shape Api.response v) (a ∷ b ∷ c ∷ d ∷ e ∷ [])) ≡ a ∷ b ∷ c ∷ d ∷ e ∷ []) (refl, (refl, (refl, refl))) v h
 
 pub own-back : (bs : List ℕ) (v : ℕ) → v ≤ 3 → (r : List ℕ) → length r ≡ 5 → nums (shownRow bs (shape Api.response v) r) ≡ r
 own-back bs v h [] e = absurd (omega arith)
@@ -47,28 +45,20 @@ own-back bs v h (a ∷ b ∷ c ∷ d ∷ []) e = absurd (omega arith)
 own-back bs v h (a ∷ b ∷ c ∷ d ∷ f ∷ []) e = own-nums bs v h a b c d f
 own-back bs v h (a ∷ b ∷ c ∷ d ∷ f ∷ g ∷ r) e = absurd (omega arith)
 
+abbrev OwnSettled : List ℕ → ℕ → ℕ → Versioned → ℕ → ℕ → Type 0
+OwnSettled lent e n t g v = nums (settledRow lent (shape Api.response v) (e ∷ n ∷ (versionedCells t ++ (g ∷ [])))) ≡ e ∷ n ∷ (versionedCells (throttleBack v t) ++ (tagsBack v g ∷ []))
+
 pub own-settled : (lent : List ℕ) (v : ℕ) → v ≤ 3 → (e n : ℕ) (t : Versioned) (g : ℕ) → eqb n minus ≡ false →
     nums (settledRow lent (shape Api.response v) (e ∷ n ∷ (versionedCells t ++ (g ∷ [])))) ≡ e ∷ n ∷ (versionedCells (throttleBack v t) ++ (tagsBack v g ∷ []))
 unfolding shape at stands standing tagRows Api.responseRows Api.keyRows settledRow settledCells shownCells settledCount gone goneCount width
-own-settled lent zero h e n Versioned.Absent g i = rw i
-own-settled lent zero h e n (Versioned.Present t) g i = rw i
-own-settled lent (suc zero) h e n Versioned.Absent g i = rw i
-own-settled lent (suc zero) h e n (Versioned.Present t) g i = rw i
-own-settled lent (suc (suc zero)) h e n Versioned.Absent g i = rw i
-own-settled lent (suc (suc zero)) h e n (Versioned.Present t) g i = rw i
-own-settled lent (suc (suc (suc zero))) h e n Versioned.Absent g i = rw i
-own-settled lent (suc (suc (suc zero))) h e n (Versioned.Present t) g i = rw i
-own-settled lent (suc (suc (suc (suc v)))) h e n t g i = absurd (omega arith)
+own-settled lent v h e n Versioned.Absent g i = up-to 3 (OwnSettled lent e n Versioned.Absent g) (rw i, (rw i, (rw i, rw i))) v h
+own-settled lent v h e n (Versioned.Present t) g i = up-to 3 (OwnSettled lent e n (Versioned.Present t) g) (rw i, (rw i, (rw i, rw i))) v h
 
 -- ---- items
 
 item-nums : (bs : List ℕ) (v : ℕ) → v ≤ 3 → (a b c d : ℕ) → nums (shownRow bs (kindOf 1 (shape Api.response v)) (a ∷ b ∷ c ∷ d ∷ [])) ≡ a ∷ b ∷ c ∷ d ∷ []
 unfolding kindOf kindIn arrays shape at stands standing tagRows Api.responseRows Api.keyRows shownRow shownCells width
-item-nums bs zero h a b c d = refl
-item-nums bs (suc zero) h a b c d = refl
-item-nums bs (suc (suc zero)) h a b c d = refl
-item-nums bs (suc (suc (suc zero))) h a b c d = refl
-item-nums bs (suc (suc (suc (suc v)))) h a b c d = absurd (omega arith)
+item-nums bs v h a b c d = up-to 3 (λ v. nums (shownRow bs (kindOf 1 (shape Api.response v)) (a ∷ b ∷ c ∷ d ∷ [])) ≡ a ∷ b ∷ c ∷ d ∷ []) (refl, (refl, (refl, refl))) v h
 
 pub item-back : (bs : List ℕ) (v : ℕ) → v ≤ 3 → (r : List ℕ) → length r ≡ 4 → nums (shownRow bs (kindOf 1 (shape Api.response v)) r) ≡ r
 item-back bs v h [] e = absurd (omega arith)
@@ -78,26 +68,15 @@ item-back bs v h (a ∷ b ∷ c ∷ []) e = absurd (omega arith)
 item-back bs v h (a ∷ b ∷ c ∷ d ∷ []) e = item-nums bs v h a b c d
 item-back bs v h (a ∷ b ∷ c ∷ d ∷ f ∷ r) e = absurd (omega arith)
 
-record Cells (q : List ℕ) : Type 0 where
-  c0 : getD (take 1 q) 0 0 ≡ getD q 0 0
-  c1 : getD (take 1 (drop 1 q)) 0 0 ≡ getD q 1 0
-  c2 : getD (take 1 (drop 1 (drop 1 q))) 0 0 ≡ getD q 2 0
-  c3 : getD (drop 1 (drop 1 (drop 1 q))) 0 0 ≡ getD q 3 0
-
-cells-of : (q : List ℕ) → Cells q
-cells-of [] = record { c0 = refl; c1 = refl; c2 = refl; c3 = refl }
-cells-of (a ∷ []) = record { c0 = refl; c1 = refl; c2 = refl; c3 = refl }
-cells-of (a ∷ b ∷ []) = record { c0 = refl; c1 = refl; c2 = refl; c3 = refl }
-cells-of (a ∷ b ∷ c ∷ []) = record { c0 = refl; c1 = refl; c2 = refl; c3 = refl }
-cells-of (a ∷ b ∷ c ∷ d ∷ q) = record { c0 = refl; c1 = refl; c2 = refl; c3 = refl }
-
 pub item-settled : (lent : List ℕ) (v : ℕ) → v ≤ 3 → (q : List ℕ) → nums (settledRow lent (kindOf 1 (shape Api.response v)) q) ≡ itemBack v q
 unfolding kindOf kindIn arrays shape at stands standing tagRows Api.responseRows Api.keyRows settledRow settledCells shownCells settledCount gone goneCount width
-item-settled lent zero h q = let c = cells-of q in λ i. c .c0 i ∷ c .c1 i ∷ c .c2 i ∷ minus ∷ []
-item-settled lent (suc zero) h q = let c = cells-of q in λ i. c .c0 i ∷ c .c1 i ∷ c .c2 i ∷ minus ∷ []
-item-settled lent (suc (suc zero)) h q = let c = cells-of q in λ i. c .c0 i ∷ c .c1 i ∷ c .c2 i ∷ minus ∷ []
-item-settled lent (suc (suc (suc zero))) h q = let c = cells-of q in λ i. c .c0 i ∷ c .c1 i ∷ c .c2 i ∷ tagsBack 3 (c .c3 i) ∷ []
-item-settled lent (suc (suc (suc (suc v)))) h q = absurd (omega arith)
+item-settled lent v h q =
+    let a = getD-take 1 q 0 0 (lit< tt) in
+    let b = getD-take 1 (drop 1 q) 0 0 (lit< tt) ∙ getD-drop 1 q 0 0 in
+    let c = getD-take 1 (drop 1 (drop 1 q)) 0 0 (lit< tt) ∙ getD-drop 1 (drop 1 q) 0 0 ∙ getD-drop 1 q 1 0 in
+    let d = getD-drop 1 (drop 1 (drop 1 q)) 0 0 ∙ getD-drop 1 (drop 1 q) 1 0 ∙ getD-drop 1 q 2 0 in
+    up-to 3 (λ v. nums (settledRow lent (kindOf 1 (shape Api.response v)) q) ≡ itemBack v q)
+    ((λ i. a i ∷ b i ∷ c i ∷ minus ∷ []), ((λ i. a i ∷ b i ∷ c i ∷ minus ∷ []), ((λ i. a i ∷ b i ∷ c i ∷ minus ∷ []), λ i. a i ∷ b i ∷ c i ∷ tagsBack 3 (d i) ∷ []))) v h
 
 -- ---- tags
 
@@ -122,8 +101,4 @@ tag-settled lent (a ∷ b ∷ c ∷ r) = refl
 
 pub widths-are : (v : ℕ) → v ≤ 3 → (rowWidth (shape Api.response v) ≡ 5) × (rowWidth (kindOf 1 (shape Api.response v)) ≡ 4) × (rowWidth (kindOf 2 (shape Api.response v)) ≡ 3)
 unfolding kindOf kindIn arrays shape at stands standing tagRows Api.responseRows Api.keyRows rowWidth width
-widths-are zero h = (refl, refl, refl)
-widths-are (suc zero) h = (refl, refl, refl)
-widths-are (suc (suc zero)) h = (refl, refl, refl)
-widths-are (suc (suc (suc zero))) h = (refl, refl, refl)
-widths-are (suc (suc (suc (suc v)))) h = absurd (omega arith)
+widths-are = up-to 3 _ ((refl, refl, refl), ((refl, refl, refl), ((refl, refl, refl), (refl, refl, refl))))

@@ -7,18 +7,19 @@ use Prim.Native.Nat.{_≤_, suc, zero, ℕ}
 use native.Mathlib.Omega.{arith}
 use lib.Dec.{eqb, leb}
 use lib.IntN.{pos}
-use lib.ListN.{getD, take}
+use lib.ListN.{take}
 use Rattle.layout.specs.Primitives.{minus}
 use Rattle.layout.specs.Rows.{at, standing, stands, tagRows}
 use Rattle.layout.specs.Tables.{slice, width}
-use Rattle.layout.specs.Answers.{Message, shape, writeAnswer}
+use Rattle.layout.specs.Answers.{shape, writeAnswer}
 use Rattle.layout.specs.Messages.ApiVersions as Api
 use Rattle.layout.specs.Messages.Fetch as Fetch
 use Rattle.layout.specs.Messages.Metadata as Metadata
-use Rattle.layout.specs.Settled.{Back, Shown, allTables, gone, goneCount, num, requestTables, settledCells, settledCount, settledRow, settledSpan, shownCells, shownRow, shownSpan}
+use Rattle.layout.specs.Settled.{allTables, gone, goneCount, num, requestTables, settledCells, settledCount, settledRow, settledSpan, shownCells, shownSpan}
 use Rattle.layout.proofs.Proper as Proper
 use Rattle.layout.proofs.Returned as Returned
 use Rattle.layout.proofs.Returned.{api-request-follows, fetch-request-follows, metadata-request-follows}
+use Rattle.primitives.proofs.Versions.{Each, up-to}
 use Rattle.primitives_put.specs.Answers.{replied}
 use Rattle.primitives_put.specs.declared.Written.{Written}
 use Rattle.body_reading.specs.Cells.{versionedCells}
@@ -60,33 +61,20 @@ metadata-own lent (suc (suc (suc (suc zero)))) h c (Creation.Set false) = refl
 metadata-own lent (suc (suc (suc (suc (suc v))))) h c x = absurd (omega arith)
 
 -- the cells of numbers that may be unset are two each, whatever they are
+abbrev FetchOwn : List ℕ → FetchBody.RequestBody → Versioned → Versioned → ℕ → Type 0
+FetchOwn lent b x y v =
+    settledRow lent (shape Fetch.request v) (b .replica ∷ b .«max_wait» ∷ b .«min_bytes» ∷ (versionedCells x ++ (versionedCells y ++ (b .topics ∷ []))))
+    ≡ num (b .replica) ∷ num (b .«max_wait») ∷ num (b .«min_bytes») ∷ (numberBack (leb 3 v) 2147483647 x ++ (numberBack (leb 4 v) 0 y ++ (num (cond (eqb (b .topics) minus) 0 (b .topics)) ∷ [])))
+
 fetch-own : (lent : List ℕ) (v : ℕ) → v ≤ 4 → (b : FetchBody.RequestBody) → settledRow lent (shape Fetch.request v) (FetchRow.ofRequest b) ≡ fetchBack v b
 unfolding shape at stands standing Fetch.requestRows Fetch.askTopicRows Fetch.askRows settledRow settledCells shownCells settledCount gone goneCount width
-fetch-own lent v h b = go v h (b .«max_bytes») (b .isolation)
+fetch-own lent v h b = up-to 4 (FetchOwn lent b (b .«max_bytes») (b .isolation)) (go (b .«max_bytes») (b .isolation)) v h
   where
-    go : (v : ℕ) → v ≤ 4 → (x y : Versioned) → settledRow lent (shape Fetch.request v) (b .replica ∷ b .«max_wait» ∷ b .«min_bytes» ∷ (versionedCells x ++ (versionedCells y ++ (b .topics ∷ [])))) ≡
-        num (b .replica) ∷ num (b .«max_wait») ∷ num (b .«min_bytes») ∷ (numberBack (leb 3 v) 2147483647 x ++ (numberBack (leb 4 v) 0 y ++ (num (cond (eqb (b .topics) minus) 0 (b .topics)) ∷ [])))
-    go zero h Versioned.Absent Versioned.Absent = refl
-    go zero h Versioned.Absent (Versioned.Present j) = refl
-    go zero h (Versioned.Present i) Versioned.Absent = refl
-    go zero h (Versioned.Present i) (Versioned.Present j) = refl
-    go (suc zero) h Versioned.Absent Versioned.Absent = refl
-    go (suc zero) h Versioned.Absent (Versioned.Present j) = refl
-    go (suc zero) h (Versioned.Present i) Versioned.Absent = refl
-    go (suc zero) h (Versioned.Present i) (Versioned.Present j) = refl
-    go (suc (suc zero)) h Versioned.Absent Versioned.Absent = refl
-    go (suc (suc zero)) h Versioned.Absent (Versioned.Present j) = refl
-    go (suc (suc zero)) h (Versioned.Present i) Versioned.Absent = refl
-    go (suc (suc zero)) h (Versioned.Present i) (Versioned.Present j) = refl
-    go (suc (suc (suc zero))) h Versioned.Absent Versioned.Absent = refl
-    go (suc (suc (suc zero))) h Versioned.Absent (Versioned.Present j) = refl
-    go (suc (suc (suc zero))) h (Versioned.Present i) Versioned.Absent = refl
-    go (suc (suc (suc zero))) h (Versioned.Present i) (Versioned.Present j) = refl
-    go (suc (suc (suc (suc zero)))) h Versioned.Absent Versioned.Absent = refl
-    go (suc (suc (suc (suc zero)))) h Versioned.Absent (Versioned.Present j) = refl
-    go (suc (suc (suc (suc zero)))) h (Versioned.Present i) Versioned.Absent = refl
-    go (suc (suc (suc (suc zero)))) h (Versioned.Present i) (Versioned.Present j) = refl
-    go (suc (suc (suc (suc (suc v))))) h x y = absurd (omega arith)
+    go : (x y : Versioned) → Each 4 (FetchOwn lent b x y)
+    go Versioned.Absent Versioned.Absent = (refl, (refl, (refl, (refl, refl))))
+    go Versioned.Absent (Versioned.Present j) = (refl, (refl, (refl, (refl, refl))))
+    go (Versioned.Present i) Versioned.Absent = (refl, (refl, (refl, (refl, refl))))
+    go (Versioned.Present i) (Versioned.Present j) = (refl, (refl, (refl, (refl, refl))))
 
 -- ---- the statements
 

@@ -1,11 +1,7 @@
 -- bytes one behind the other
 pub mod Walk
--- 13, and the faults of the own row
-pub mod OwnRow
--- 11 and 7 of a topic
-pub mod Topic
--- numbers that fit
-pub mod Fits
+-- 13, the faults of the own row, 11 and 7 of a topic, and numbers that fit
+pub mod Judgement
 -- the most bytes that a request can have
 pub mod Most
 -- the answer to the call

@@ -9,7 +9,7 @@ use lib.Dec.{lit<}
 use lib.ListN.{getD, length, length-append, take}
 use lib.Seq.{length-take-le}
 use borrow.Rule.Slice.PartMut.{midOf, putMid}
-use Rattle.layout.specs.Primitives.{bytes, empty, fixed, lengthBytes, w32}
+use Rattle.layout.specs.Primitives.{bytes, empty, fixed, lengthBytes, w32, w64}
 use Rattle.layout.specs.Rows.{end, stands}
 use Rattle.layout.specs.Tables.{basicOf, chosen, count, pop, rowWidth, rowsOf, slice, valueOf, width}
 use Rattle.layout.specs.Write.{write, writeBasic}
@@ -22,26 +22,15 @@ use Rattle.body_writing.proofs.Nested.{Nest, row-bytes}
 use Rattle.body_writing.proofs.Writes.{any-bytes, joined-bytes}
 use Rattle.primitives_put.specs.declared.Form.{Form}
 use Rattle.primitives_put.specs.Put.{Put, behindLength, sizeOf}
-use Rattle.body_writing.proofs.Even.{Even, even-end, even-left, even-more, rows-wide, three-put}
-use Rattle.body_writing.proofs.Rows.{counted-put, string-bytes, stringShape}
+use Rattle.body_writing.proofs.Even.{Even, counted-put, even-end, even-left, even-more, numbers-bytes, numbers-wide, rows-wide, string-bytes, stringShape, three-put}
 use Rattle.primitives_put.proofs.Stored.{put-step}
 use Rattle.body_writing.proofs.Counts.{few-told}
 use Rattle.fetch_request.specs.Shapes.{leadShape, limitsShape, partitionShape, requestShape, topicShape, topicsShape}
 
 -- ---- partitions: sixteen bytes each
 
-partition-is : (r : List ℕ) → rowBytes [] partitionShape r ≡ bytes 4 (getD r 0 0) ++ (bytes 8 (getD r 1 0) ++ bytes 4 (getD r 2 0))
-unfolding rowBytes bytesAt write writeBasic valueOf pop width basicOf
-partition-is [] = ap (λ (x : List ℕ). bytes 4 0 ++ (bytes 8 0 ++ x)) (append-nil (bytes 4 0))
-partition-is (a ∷ []) = ap (λ (x : List ℕ). bytes 4 a ++ (bytes 8 0 ++ x)) (append-nil (bytes 4 0))
-partition-is (a ∷ b ∷ []) = ap (λ (x : List ℕ). bytes 4 a ++ (bytes 8 b ++ x)) (append-nil (bytes 4 0))
-partition-is (a ∷ b ∷ c ∷ r) = ap (λ (x : List ℕ). bytes 4 a ++ (bytes 8 b ++ x)) (append-nil (bytes 4 c))
-
 pub partition-wide : (r : List ℕ) → length (rowBytes [] partitionShape r) ≡ 16
-partition-wide r =
-    ap length (partition-is r)
-    ∙ length-append (bytes 4 (getD r 0 0)) (bytes 8 (getD r 1 0) ++ bytes 4 (getD r 2 0))
-    ∙ omega (arith, length-append (bytes 8 (getD r 1 0)) (bytes 4 (getD r 2 0)), length-bytes 4 (getD r 0 0), length-bytes 8 (getD r 1 0), length-bytes 4 (getD r 2 0))
+partition-wide = numbers-wide [] w32 w64 w32
 
 pub partitions-wide : (table : List ℕ) → length (rowsBytes [] partitionShape 3 table) ≡ length table / 3 * 16
 unfolding rowsBytes
@@ -77,7 +66,7 @@ pub partition-put : (table : List ℕ) (i : ℕ) → i < length table / 3 → {d
     (d₂ : List ℕ) → d₂ ≡ putMid 4 (length d₁ - 4) d₁ e → {f : List ℕ} {l : ℕ} → Put (bytes 4 (getD table (i * 3 + 2) 0)) (midOf 12 (length d₂ - 12) d₂) l f →
     Capped (rowBytes [] partitionShape (getD (rowsOf 3 table) i [])) d 16 (putMid 12 (length d₂ - 12) d₂ f)
 partition-put table i l h p q d₂ u s =
-    capped-as ((λ t. bytes 4 (sym (row-cell 3 table i l 0 (lit< tt) ∙ ap (λ (j : ℕ). getD table j 0) (add-zero (i * 3))) t) ++ (bytes 8 (sym (row-cell 3 table i l 1 (lit< tt)) t) ++ bytes 4 (sym (row-cell 3 table i l 2 (lit< tt)) t))) ∙ sym (partition-is (getD (rowsOf 3 table) i [])))
+    capped-as ((λ t. bytes 4 (sym (row-cell 3 table i l 0 (lit< tt) ∙ ap (λ (j : ℕ). getD table j 0) (add-zero (i * 3))) t) ++ (bytes 8 (sym (row-cell 3 table i l 1 (lit< tt)) t) ++ bytes 4 (sym (row-cell 3 table i l 2 (lit< tt)) t))) ∙ sym (numbers-bytes [] w32 w64 w32 (getD (rowsOf 3 table) i [])))
     (three-put 4 8 4 _ _ _ (omega arith) p q d₂ u s)
 
 -- ---- a topic: j cells of partitions, behind the name x
@@ -153,8 +142,7 @@ limits-are false true largest level = sym (append-nil (bytes 1 level))
 limits-are false false largest level = refl
 
 pub lead-are : (x y z : ℕ) → bytes 4 x ++ (bytes 4 y ++ bytes 4 z) ≡ rowBytes [] (leadShape end) (x ∷ y ∷ z ∷ [])
-unfolding rowBytes bytesAt write writeBasic valueOf pop width basicOf
-lead-are x y z = ap (λ (w : List ℕ). bytes 4 x ++ (bytes 4 y ++ w)) (sym (append-nil (bytes 4 z)))
+lead-are x y z = sym (numbers-bytes [] w32 w32 w32 (x ∷ y ∷ z ∷ []))
 
 -- ---- one behind the other, as calls with `&mut out[at..]` leave it
 

@@ -2,7 +2,6 @@
 pub mod AbortedRows
 pub mod AbortedCounts
 -- partitions
-pub mod PartitionCells
 pub mod PartitionRows
 -- topics
 pub mod TopicRows

@@ -2,7 +2,7 @@
 -- and versions 1, 2 and 3, which have one layout, are read alike.
 use mathlib.Core.List.{List, _++_}
 use mathlib.Core.Path.{_∙_, _≡_, ap, refl, sym}
-use Prim.Native.Nat.{_≤_, suc, zero, ℕ}
+use Prim.Native.Nat.{_≤_, ℕ}
 use native.Mathlib.Omega.{arith}
 use lib.IntN.{pos, ℤ}
 use lib.ListN.{length, take}
@@ -10,6 +10,7 @@ use Rattle.layout.specs.Rows.{at, standing, stands}
 use Rattle.layout.specs.Answers.{Answer, accepted, most, prefixRead, shape}
 use Rattle.layout.specs.Messages.Fetch as Fetch
 use Rattle.layout.proofs.Calls.{local-reply}
+use Rattle.primitives.proofs.Versions.{between}
 use Rattle.body_reading.proofs.Reply.{one-layout}
 use Rattle.fetch_response.specs.Answers.{ofResponseReply}
 use Rattle.fetch_response.proofs.Unique.{Three, Told, listed, response-unique, said}
@@ -30,11 +31,7 @@ response-local msg behind v lent x y n p a h q =
 
 one-shape : (v : ℕ) → 1 ≤ v → v ≤ 3 → shape Fetch.response v ≡ shape Fetch.response 1
 unfolding shape at stands standing Fetch.abortedRows Fetch.partitionRows Fetch.topicRows Fetch.responseRows
-one-shape zero h k = absurd (omega arith)
-one-shape (suc zero) h k = refl
-one-shape (suc (suc zero)) h k = refl
-one-shape (suc (suc (suc zero))) h k = refl
-one-shape (suc (suc (suc (suc v)))) h k = absurd (omega arith)
+one-shape = between 1 2 (λ v. shape Fetch.response v ≡ shape Fetch.response 1) (refl, (refl, refl))
 
 -- a body is read alike at 1, at 2 and at 3
 pub one-to-three : (a b : ℕ) → 1 ≤ a → a ≤ 3 → 1 ≤ b → b ≤ 3 → (msg : List ℕ) (lent : Three) (x y : Told) → PrefixRead msg (pos a) lent x → PrefixRead msg (pos b) lent y → x ≡ y

@@ -14,14 +14,14 @@ use Rattle.layout.proofs.Local.{not-ok}
 use Rattle.layout.proofs.Proper.{fetch-response}
 use Rattle.primitives.specs.Answers.{noRoom, ofRefusal, versionOf}
 use Rattle.primitives.specs.declared.Refusal as Code
+use Rattle.primitives.proofs.Versions.{up-to}
 use Rattle.body_reading.specs.Meter.{lengths, metered, short}
 use Rattle.body_reading.specs.Store.{State, own, tab}
 use Rattle.body_reading.specs.Walk.{on, walk}
 use Rattle.body_reading.proofs.Bound.{lean, slim, taken}
 use Rattle.body_reading.proofs.Close.{slices, tabs}
 use Rattle.body_reading.proofs.Metered.{is-known, measured-no, measured-took, metered-fits, metered-no, metered-short}
-use Rattle.body_reading.proofs.Reply.{up-to-four}
-use Rattle.body_reading.proofs.Rooms.{short-here, short-next, short-none}
+use Rattle.body_reading.proofs.Reply.{short-here, short-next, short-none}
 use Rattle.fetch_response.specs.TopicShapes.{abortedShape, partitionShape, topicShape}
 use Rattle.fetch_response.specs.declared.marks.Marks.{Marks}
 use Rattle.fetch_response.specs.Answers.{ofMeasure, ofResponse, ofRoom, sizes}
@@ -44,7 +44,7 @@ row-widths = refl
 -- the layout of a version, by what sets it apart
 pub shape-is : (v : ℕ) → v ≤ 4 → shape Fetch.response v ≡ bodyShape v
 unfolding shape at stands standing Fetch.abortedRows Fetch.partitionRows Fetch.topicRows Fetch.responseRows bodyShape topicShape partitionShape abortedShape
-shape-is = up-to-four (λ v. shape Fetch.response v ≡ bodyShape v) refl refl refl refl refl
+shape-is = up-to 4 (λ v. shape Fetch.response v ≡ bodyShape v) (refl, (refl, (refl, (refl, refl))))
 
 -- ---- room, in table order
 
@@ -53,24 +53,18 @@ module _ (m : Marks) (t p a : ℕ) where
   Lacks o = ofRoom o ≡ short (widths Fetch.response) (sizes m) (t ∷ p ∷ a ∷ [])
 
   pub short-topics : t / 3 < m .topics / 3 → Lacks (Room.Needs (m .topics / 3))
-  short-topics h = rw row-widths (sym (short-here 3 _ (m .topics) _ t _ h))
+  short-topics h = simp (row-widths, short-here)
 
   module _ (f : m .topics / 3 ≤ t / 3) where
-    behind-topics : short (widths Fetch.response) (sizes m) (t ∷ p ∷ a ∷ []) ≡ short (7 ∷ 2 ∷ []) (m .partitions ∷ m .aborted ∷ []) (p ∷ a ∷ [])
-    behind-topics = rw row-widths (short-next 3 _ (m .topics) _ t _ f)
-
     pub short-partitions : p / 7 < m .partitions / 7 → Lacks (Room.Needs (m .partitions / 7))
-    short-partitions h = sym (behind-topics ∙ short-here 7 _ (m .partitions) _ p _ h)
+    short-partitions h = simp (row-widths, short-next, short-here)
 
     module _ (g : m .partitions / 7 ≤ p / 7) where
-      behind-partitions : short (widths Fetch.response) (sizes m) (t ∷ p ∷ a ∷ []) ≡ short (2 ∷ []) (m .aborted ∷ []) (a ∷ [])
-      behind-partitions = behind-topics ∙ short-next 7 _ (m .partitions) _ p _ g
-
       pub short-aborted : a / 2 < m .aborted / 2 → Lacks (Room.Needs (m .aborted / 2))
-      short-aborted h = sym (behind-partitions ∙ short-here 2 _ (m .aborted) _ a _ h)
+      short-aborted h = simp (row-widths, short-next, short-here)
 
       pub short-nowhere : m .aborted / 2 ≤ a / 2 → Lacks Room.Enough
-      short-nowhere h = sym (behind-partitions ∙ short-next 2 _ (m .aborted) _ a _ h ∙ short-none [] [])
+      short-nowhere h = simp (row-widths, short-next, short-none)
 
 -- ---- the measure
 

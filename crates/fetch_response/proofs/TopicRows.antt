@@ -16,7 +16,7 @@ use Rattle.body_reading.specs.Moved.{arrayItems}
 use Rattle.body_reading.specs.Store.{State, Tab, add, store, tab}
 use Rattle.body_reading.specs.Walk.{Runs, on, walk}
 use Rattle.body_reading.proofs.Arrays.{items-no, items-no-count, items-took, row-end}
-use Rattle.body_reading.proofs.Fields.{field-no, field-took}
+use Rattle.body_reading.proofs.Chains.{field-no, field-took}
 use Rattle.body_reading.proofs.Stores.{store-append}
 use Rattle.fetch_response.specs.TopicShapes.{partitionShape, topicShape}
 use Rattle.fetch_response.specs.TopicWalks.{Before, inPartitions, inTopics, partitionsIs, topicsIs}

@@ -1,4 +1,4 @@
--- In a message that is accepted, the rows that the search reads are those of the brokers' table: so what is found is what the lookup tells.
+-- In a message that is accepted, the rows that the search reads are those of the brokers' table: so what is found is what the lookup tells, and the whole answer.
 use mathlib.Core.Bool.{Bool, false, true}
 use mathlib.Core.List.{List, [], _++_, _∷_, append-nil, map}
 use mathlib.Core.Path.{_∙_, _≡_, ap, refl, subst, sym}
@@ -6,46 +6,38 @@ use Prim.Native.Nat.{_-_, _≤_, suc, zero, ℕ}
 use native.Mathlib.Nat.{zero-add}
 use native.Mathlib.Omega.{arith}
 use lib.Dec.{leb}
-use lib.IntN.{pos}
+use lib.IntN.{pos, ℤ}
 use lib.ListN.{getD, length}
-use Rattle.layout.specs.Reading.{Reader, Res, bad, give, many, more, ok, pair, then}
+use Rattle.layout.specs.Reading.{Reader, Refusal, Res, bad, give, many, more, ok, pair, then}
 use Rattle.layout.specs.Primitives.{admits, checked, empty, fixed, lengthOf, refusal, sized, unsigned, w32}
-use Rattle.layout.specs.Rows.{Basic, BasicValue, Shape, Value, absent, array, at, done, end, field, int32, items, maybe, nullableString, number, optional, row, rows, standing, stands}
+use Rattle.layout.specs.Rows.{Basic, Shape, Value, absent, array, at, done, end, field, int32, items, maybe, nullableString, number, optional, row, rows, standing, stands}
 use Rattle.layout.specs.Read.{byPlace, counted, read, readBasic}
 use Rattle.layout.specs.Tables.{Span, Tables, absentCells, arrays, cells, firstRow, kindIn, kindOf, rowWidth, rowsOf, width}
 use Rattle.layout.specs.Answers.{seen, shape}
-use Rattle.layout.specs.Lookup.{Host, hostOf, lookup}
+use Rattle.layout.specs.Lookup.{Host, hostOf, lookup, refused}
 use Rattle.layout.specs.Messages.Metadata.{brokerRows, nodeRows, partitionRows, response, responseRows, topicRows}
+use Rattle.body_reading.specs.Walk.{itemCount, on, rowFrom}
+use Rattle.body_reading.specs.Moved.{arrayItems}
+use Rattle.body_reading.specs.Fronts.{frontOf}
+use Rattle.metadata_response.specs.Brokers.{brokerShape}
+use Rattle.primitives.specs.Answers.{versionOf}
+use Rattle.body_reading.specs.Meter.{metered}
+use Rattle.metadata_lookup.specs.Hosts.{Seeks, brokersOf}
 use Rattle.layout.proofs.Calls.{Seen, seen-inv, tables-are}
 use Rattle.layout.proofs.Contents.{Free, Holds, flatten, free-rows, joined, rowCells, rows-back, rows-wide, rowsIn}
 use Rattle.layout.proofs.Every.{All}
 use Rattle.layout.proofs.Local.{not-ok}
-use Rattle.layout.proofs.Looked.{lookup-rows}
+use Rattle.layout.proofs.Looked.{lookup-refuses, lookup-rows}
 use Rattle.layout.proofs.Proper.{metadata-response, owed, width-same, widthAt}
-use Rattle.body_reading.specs.Walk.{itemCount, on, rowFrom}
-use Rattle.body_reading.proofs.Flat.{Flat}
-use Rattle.body_reading.proofs.RowCells.{cells-absent, cells-end, cells-took, no-row-of, row-of}
-use Rattle.body_reading.proofs.Chains.{Both, both, give-took, same-end, same-value, then-took}
-use Rattle.body_reading.specs.Moved.{arrayItems}
-use Rattle.body_reading.specs.Fronts.{frontOf}
+use Rattle.body_reading.proofs.Front.{Flat}
+use Rattle.body_reading.proofs.RowCells.{cells-absent, cells-end, cells-took, read-row}
+use Rattle.body_reading.proofs.Chains.{both, give-took, same-end, same-value, then-took}
 use Rattle.body_reading.proofs.Fronts.{count-took}
-use Rattle.metadata_response.specs.Brokers.{brokerShape}
 use Rattle.metadata_response.proofs.BrokerRows.{broker-flat}
-use Rattle.metadata_lookup.specs.Hosts.{Seeks, brokersOf}
 
 -- ---- where values are read, their cells are
 
 module _ (l : Shape) (f : Flat l) (s : List ℕ) where
-  row-for : (p q : ℕ) (x : Value Span l) → ok x q ≡ on (read (byPlace false) l) s p → ok (rowCells l x) q ≡ on (rowFrom [] l) s p
-  row-for p q x e = go (on (rowFrom [] l) s p) refl
-    where
-      go : (o : Res (List ℕ)) → on (rowFrom [] l) s p ≡ o → ok (rowCells l x) q ≡ on (rowFrom [] l) s p
-      go (ok cs u) d =
-          let a = row-of l f s p cs u (sym d) in
-          let g = e ∙ sym (a .is) in
-          (λ i. ok (rowCells l (same-value g i)) (same-end g i)) ∙ ap (λ (ds : List ℕ). ok ds u) (sym (a .told)) ∙ sym d
-      go (bad c) d = not-ok (no-row-of l f s p c (sym d) ∙ sym e)
-
   rows-for : (n p q : ℕ) (ys : List (Value Span l)) → ok ys q ≡ on (many n (read (byPlace false) l)) s p → ok (map (rowCells l) ys) q ≡ on (many n (rowFrom [] l)) s p
   unfolding many
   rows-for zero p q ys e =
@@ -56,7 +48,7 @@ module _ (l : Shape) (f : Flat l) (s : List ℕ) where
       let b = both (many n (read (byPlace false) l)) (λ xs. give (a .x ∷ xs)) s (a .u) ys q (a .second) in
       let g = b .second ∙ sym (give-took (a .x ∷ b .x) s (b .u)) in
       (λ i. ok (map (rowCells l) (same-value g i)) (same-end g i))
-      ∙ then-took (rowFrom [] l) (λ x. then (many n (rowFrom [] l)) (λ xs. give (x ∷ xs))) s p (row-for p (a .u) (a .x) (a .first))
+      ∙ then-took (rowFrom [] l) (λ x. then (many n (rowFrom [] l)) (λ xs. give (x ∷ xs))) s p (read-row l f s p [] (a .x) (a .u) (a .first))
       (then-took (many n (rowFrom [] l)) (λ xs. give (rowCells l (a .x) ∷ xs)) s (a .u) (rows-for n (a .u) (b .u) (b .x) (b .first)) (give-took (rowCells l (a .x) ∷ map (rowCells l) (b .x)) s (b .u)))
 
 -- ---- a body: perhaps a throttle time, the brokers, and anything that leaves their table alone
@@ -99,10 +91,9 @@ module _ (racked throttled : Bool) (s : List ℕ) where
     -- the cells of values that are read behind their number
     counted-rows : (p u : ℕ) (ys : List (Value Span (brokerShape racked))) → ok ys u ≡ on values s p → From p (map (rowCells (brokerShape racked)) ys)
     unfolding sized itemCount
-    counted-rows p u ys e = go (both count (λ n. many (n - 1) (read (byPlace false) (brokerShape racked))) s p ys u e)
-      where
-        go : Both count (λ n. many (n - 1) (read (byPlace false) (brokerShape racked))) s p ys u → From p (map (rowCells (brokerShape racked)) ys)
-        go c = record {
+    counted-rows p u ys e =
+        let c = both count (λ n. many (n - 1) (read (byPlace false) (brokerShape racked))) s p ys u e in
+        record {
           n = c .x - 1;
           m = c .u;
           u = u;
@@ -112,16 +103,12 @@ module _ (racked throttled : Bool) (s : List ℕ) where
 
     from : (p n : ℕ) (x : Value Span brokers) → ok x n ≡ on (read (byPlace false) brokers) s p → From p (rowsIn 1 brokers x)
     unfolding read pair
-    from p n x e = go (both values (λ ys. then (read (byPlace false) tail) (λ y. give (ys, y))) s p x n e)
-      where
-        made : (ys : List (Value Span (brokerShape racked))) (u : ℕ) → ok ys u ≡ on values s p → Both (read (byPlace false) tail) (λ y. give (ys, y)) s u x n → From p (rowsIn 1 brokers x)
-        made ys u d b =
-            let g = b .second ∙ sym (give-took (ys, b .x) s (b .u)) in
-            let k : x .0 ≡ ys = ap (λ y. y .0) (same-value g) in
-            subst (From p) (sym (ap (map (rowCells (brokerShape racked))) k) ∙ rows-are x) (counted-rows p u ys d)
-
-        go : Both values (λ ys. then (read (byPlace false) tail) (λ y. give (ys, y))) s p x n → From p (rowsIn 1 brokers x)
-        go a = made (a .x) (a .u) (a .first) (both (read (byPlace false) tail) (λ y. give (a .x, y)) s (a .u) x n (a .second))
+    from p n x e =
+        let a = both values (λ ys. then (read (byPlace false) tail) (λ y. give (ys, y))) s p x n e in
+        let b = both (read (byPlace false) tail) (λ y. give (a .x, y)) s (a .u) x n (a .second) in
+        let g = b .second ∙ sym (give-took (a .x, b .x) s (b .u)) in
+        let k : x .0 ≡ a .x = ap (λ y. y .0) (same-value g) in
+        subst (From p) (sym (ap (map (rowCells (brokerShape racked))) k) ∙ rows-are x) (counted-rows p (a .u) (a .x) (a .first))
 
     -- behind the front, which holds the number
     behind-front : (l : Shape) (x : Value Span l) (cs : List ℕ) (p : ℕ) → ok cs p ≡ on (rowFrom [] (stands throttled time end)) s 0 → From p (rowsIn 1 l x) → Brought l x
@@ -136,12 +123,9 @@ module _ (racked throttled : Bool) (s : List ℕ) where
         let b = both (read (byPlace false) brokers) (λ z. give (a .x, z)) s (a .u) x n (a .second) in
         let g = b .second ∙ sym (give-took (a .x, b .x) s (b .u)) in
         let k : b .x ≡ x .1 = sym (ap (λ y. y .1) (same-value g)) in
-        made (a .x) (a .u) (a .first) (from (a .u) (b .u) (x .1) (ap (λ y. ok y (b .u)) (sym k) ∙ b .first))
-      where
-        made : (y : BasicValue Span time) (u : ℕ) → ok y u ≡ on (readBasic (byPlace false) time) s 0 → From u (rowsIn 1 brokers (x .1)) → Brought (field time brokers) x
-        made y u d w =
-            behind-front (field time brokers) x (cells time y) u
-            (subst (λ (b : Bool). ok (cells time y) u ≡ on (rowFrom [] (stands b time end)) s 0) (sym t) (cells-took [] time end s 0 y u d _ (cells-end (cells time y) s u))) w
+        behind-front (field time brokers) x (cells time (a .x)) (a .u)
+        (subst (λ (b : Bool). ok (cells time (a .x)) (a .u) ≡ on (rowFrom [] (stands b time end)) s 0) (sym t) (cells-took [] time end s 0 (a .x) (a .u) (a .first) _ (cells-end (cells time (a .x)) s (a .u))))
+        (from (a .u) (b .u) (x .1) (ap (λ y. ok y (b .u)) (sym k) ∙ b .first))
 
     lacking : (n : ℕ) (x : Value Span (absent time brokers)) → throttled ≡ false → ok x n ≡ on (read (byPlace false) (absent time brokers)) s 0 → Brought (absent time brokers) x
     unfolding read rowsIn stands
@@ -205,3 +189,28 @@ module _ (node v : ℕ) (s : List ℕ) (st : Tables) (n : ℕ) (e : seen false r
           let k : d .version ≡ v = (let i = d .is in cc) in
           let l : v ≤ 4 = subst (λ (j : ℕ). j ≤ 4) k (d .known) in
           held l (subst (λ (j : ℕ). Holds false (shape response j) s n st) k (tables-are response metadata-response false (pos v) s st n d)) (body v l)
+
+module _ (node : ℕ) (z : ℤ) (s : List ℕ) where
+  -- the message is refused
+  pub answer-no : (c : Refusal) → bad c ≡ metered (seen false response z s) → refused c ≡ lookup node z s
+  unfolding metered
+  answer-no c e = go (seen false response z s) refl e
+    where
+      go : (o : Res Tables) → seen false response z s ≡ o → bad c ≡ metered o → refused c ≡ lookup node z s
+      go (ok st n) d e = not-ok e
+      go (bad b) d e = let k : c ≡ b = cc in sym (lookup-refuses node z s c .1 (d ∙ ap bad (sym k)))
+
+  -- or else the first broker of the node decides
+  pub answer-took : (y : List ℕ × List ℕ) (n : ℕ) → ok y n ≡ metered (seen false response z s) → (v : ℕ) → v ≡ versionOf z → (h : Host) → Seeks (brokersOf (leb 1 v) (leb 3 v)) s 0 node h → h ≡ lookup node z s
+  unfolding metered
+  answer-took y n e v i h w = go (seen false response z s) refl e
+    where
+      known : (st : Tables) (k : ℕ) → seen false response z s ≡ ok st k → Seen false response z s st k → h ≡ lookup node z s
+      known st k d a =
+          let j : v ≡ a .version = i ∙ ap versionOf (a .is) in
+          let u = subst (λ (m : ℕ). Seeks (brokersOf (leb 1 m) (leb 3 m)) s 0 node h) j w in
+          as-lookup node (a .version) s st k (ap (λ (x : ℤ). seen false response x s) (sym (a .is)) ∙ d) h u ∙ ap (λ (x : ℤ). lookup node x s) (sym (a .is))
+
+      go : (o : Res Tables) → seen false response z s ≡ o → ok y n ≡ metered o → h ≡ lookup node z s
+      go (ok st k) d e = known st k d (seen-inv false response z s st k d)
+      go (bad b) d e = not-ok (sym e)

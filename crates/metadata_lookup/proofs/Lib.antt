@@ -1,7 +1,6 @@
 -- each way out of the search for a host
 pub mod Search
--- what it finds is what the lookup tells
+-- what it finds is what the lookup tells, and so the whole answer
 pub mod Bodies
--- the whole answer, and that it is the only one
-pub mod Answered
+-- the answer is the only one
 pub mod Unique

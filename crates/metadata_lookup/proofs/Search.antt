@@ -13,7 +13,7 @@ use Rattle.layout.specs.Tables.{firstRow}
 use Rattle.layout.specs.Lookup.{Host, found, hostOf, unknown}
 use Rattle.layout.proofs.Local.{not-ok}
 use Rattle.body_reading.specs.Walk.{on, rowFrom}
-use Rattle.body_reading.proofs.Chains.{Both, both, give-took, same-end, same-value, then-no, then-took}
+use Rattle.body_reading.proofs.Chains.{both, give-took, same-end, same-value, then-no, then-took}
 use Rattle.body_reading.specs.Fronts.{frontOf}
 use Rattle.metadata_response.specs.Brokers.{brokerShape}
 use Rattle.metadata_lookup.specs.Hosts.{Seeks, brokersOf}
@@ -48,12 +48,10 @@ module _ (r : Reader (List ℕ)) (s : List ℕ) (node : ℕ) where
 
   rest : (n p : ℕ) (cs : List ℕ) (u : ℕ) → ok cs u ≡ on r s p → (rows : List (List ℕ)) (q : ℕ) → ok rows q ≡ on (many (suc n) r) s p → Rest n cs u rows q
   unfolding many
-  rest n p cs u e rows q d = go (both (many n r) (λ xs. give (cs ∷ xs)) s u rows q (d ∙ sym (then-took r (λ x. then (many n r) (λ xs. give (x ∷ xs))) s p e refl)))
-    where
-      go : Both (many n r) (λ xs. give (cs ∷ xs)) s u rows q → Rest n cs u rows q
-      go a =
-          let g = a .second ∙ sym (give-took (cs ∷ a .x) s (a .u)) in
-          record { behind = a .x; is = same-value g; read = ap (λ (j : ℕ). ok (a .x) j) (same-end g) ∙ a .first }
+  rest n p cs u e rows q d =
+      let a = both (many n r) (λ xs. give (cs ∷ xs)) s u rows q (d ∙ sym (then-took r (λ x. then (many n r) (λ xs. give (x ∷ xs))) s p e refl)) in
+      let g = a .second ∙ sym (give-took (cs ∷ a .x) s (a .u)) in
+      record { behind = a .x; is = same-value g; read = ap (λ (j : ℕ). ok (a .x) j) (same-end g) ∙ a .first }
 
   module _ (n p : ℕ) (l : 0 < n) (cs : List ℕ) (u : ℕ) (e : ok cs u ≡ on r s p) where
     pub row-here : getD cs 0 0 ≡ node → Seeks (many n r) s p node (found (getD cs 1 0) (getD cs 2 0))

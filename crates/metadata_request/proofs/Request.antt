@@ -16,24 +16,24 @@ use Rattle.layout.specs.Messages.Metadata.{nameRows, request, requestRows}
 use Rattle.layout.specs.Primitives.{fixed, flagBytes, kept, lengthBytes, minus, nullBytes, w32}
 use Rattle.layout.specs.Rows.{at, end, stands, standing}
 use Rattle.layout.specs.Tables.{arrays, asked, basicOf, chosen, chunks, count, good, goodCells, goodCount, goodRow, goodSpan, kindIn, kindOf, pop, rowWidth, rowsOf, slice, valueOf, width}
-use Rattle.layout.specs.Write.{basicFault, fault, firstOf, or, tooLong, unless, write, writeBasic}
+use Rattle.layout.specs.Write.{basicFault, fault, firstOf, or, tooLong, write, writeBasic}
 use Rattle.layout.proofs.Proper.{both}
-use Rattle.layout.proofs.Tests.{lt-false, lt-true, of-eq}
+use Rattle.layout.proofs.Tests.{of-eq}
 use Rattle.primitives_put.specs.Step.{Capped, cap}
 use Rattle.body_writing.specs.Writes.{bytesAt, countedBytes, faultAt, refusalOf, rowBytes, rowFault, rowsBytes, rowsFault}
-use Rattle.primitives_put.proofs.Capped.{capped, capped-as, capped-behind}
+use Rattle.primitives_put.proofs.Capped.{capped, capped-as, capped-behind, step-nothing}
 use Rattle.body_writing.proofs.Faults.{or-none}
-use Rattle.body_reading.proofs.Flat.{Flat}
-use Rattle.body_reading.proofs.Reply.{up-to-four}
-use Rattle.primitives_put.proofs.Step.{step-nothing}
+use Rattle.body_reading.proofs.Front.{Flat}
+use Rattle.primitives.proofs.Versions.{up-to}
 use Rattle.body_writing.proofs.Writes.{all-bytes, array-null, refusal-bad, refusal-good, refusal-none, then-bytes, then-fault}
 use Rattle.primitives.specs.Answers.{versionOf}
 use Rattle.primitives_put.specs.declared.Form.{Form}
 use Rattle.primitives_put.specs.Put.{Put, behindLength, sizeOf}
-use Rattle.body_writing.proofs.Rows.{counted-put, null-put, string-put}
+use Rattle.body_writing.proofs.Even.{counted-put, null-put, string-put}
 use Rattle.primitives_put.proofs.Stored.{put-step}
 use Rattle.body_writing.specs.Asked.{allRanged, ranged, stringFault}
 use Rattle.body_writing.proofs.Counts.{rows-other, rows-same}
+use Rattle.body_writing.proofs.Judged.{always}
 use Rattle.body_writing.proofs.Lent.{good-one, string-told}
 use Rattle.body_writing.proofs.Called.{called}
 use Rattle.metadata_request.specs.Answers.{ofCreation}
@@ -42,7 +42,7 @@ use Rattle.metadata_request.specs.Shapes.{creationField, creationShape, 
 
 is-shape : (v : ℕ) → v ≤ 4 → shape request v ≡ requestShape (leb 4 v)
 unfolding shape at stands standing requestRows nameRows
-is-shape = up-to-four (λ v. shape request v ≡ requestShape (leb 4 v)) refl refl refl refl refl
+is-shape = up-to 4 (λ v. shape request v ≡ requestShape (leb 4 v)) (refl, (refl, (refl, (refl, refl))))
 
 -- ---- names
 
@@ -62,11 +62,7 @@ module _ (size c : ℕ) (topics : List ℕ) where
   -- whatever is said of auto-creation
   is-good : (k m : ℕ) → good size 1 (requestShape false) ((c ∷ k ∷ m ∷ []) ∷ topics ∷ []) ≡ asks
   unfolding kindOf kindIn arrays rowWidth width goodRow goodCells goodSpan asked ranged
-  is-good k m = good-one size (requestShape false) nameShape 2 0 (count c) (goodCount true c) (c ∷ k ∷ m ∷ []) topics refl refl (own (eqb k 0)) (add-zero (count c)) (λ r. and-true _) (λ r. refl)
-    where
-      own : (b : Bool) → (goodCount true c && (cond b true true && true)) ≡ goodCount true c
-      own true = and-true (goodCount true c)
-      own false = and-true (goodCount true c)
+  is-good k m = good-one size (requestShape false) nameShape 2 0 (count c) (goodCount true c) (c ∷ k ∷ m ∷ []) topics refl refl (rw (always (eqb k 0)) (and-true (goodCount true c))) (add-zero (count c)) (λ r. and-true _) (λ r. refl)
 
   abbrev judged : Bool
   judged = good size 1 (requestShape false) ((c ∷ 2 ∷ 1 ∷ []) ∷ topics ∷ [])
@@ -98,10 +94,9 @@ module _ (lent : List ℕ) (c : ℕ) (topics : List ℕ) where
 
   fault-is : (f : Bool) (k m : ℕ) → faultAt lent (requestShape f) 0 ((c ∷ k ∷ m ∷ []) ∷ topics ∷ []) ≡ firstOf (rowFault lent nameShape) (chunks (count c) 2 topics)
   unfolding rowWidth width tooLong or
-  fault-is f k m = then-fault lent (fixed w32 kept) nameShape tt 2 refl c topics (creationShape f) (creation-flat f) (k ∷ m ∷ []) ∙ ap (or names) (creation-clean lent (k ∷ m ∷ []) f) ∙ or-none names
-    where
-      names : ℕ
-      names = firstOf (rowFault lent nameShape) (chunks (count c) 2 topics)
+  fault-is f k m =
+      let names : ℕ = firstOf (rowFault lent nameShape) (chunks (count c) 2 topics) in
+      then-fault lent (fixed w32 kept) nameShape tt 2 refl c topics (creationShape f) (creation-flat f) (k ∷ m ∷ []) ∙ ap (or names) (creation-clean lent (k ∷ m ∷ []) f) ∙ or-none names
 
   module _ (a : Bool) (e : a ≡ good (length lent) 1 (requestShape false) ((c ∷ 2 ∷ 1 ∷ []) ∷ topics ∷ [])) where
     pub fault-bad : a ≡ false → 13 ≡ refusal

@@ -16,8 +16,7 @@ use Rattle.body_reading.specs.Store.{State, Tab, add, own, tab}
 use Rattle.body_reading.specs.Walk.{Runs, on, rowFrom, walk}
 use Rattle.body_reading.proofs.Arrays.{items-no, items-no-count, items-took, row-end}
 use Rattle.body_reading.proofs.Close.{store-own}
-use Rattle.body_reading.proofs.Flat.{Flat}
-use Rattle.body_reading.proofs.Front.{onto, stands-flat, stands-onto}
+use Rattle.body_reading.proofs.Front.{Flat, onto, stands-flat, stands-onto}
 use Rattle.body_reading.proofs.RowCells.{cells-end, cells-if-no, cells-if-took, row-no, row-took}
 use Rattle.body_reading.specs.Cells.{fieldCells, ofText, ofVersionedAt, versionedCells}
 use Rattle.body_reading.specs.Fronts.{frontOf, ofFront}

@@ -13,7 +13,7 @@ use Rattle.primitives.specs.Answers.{ofRefusal}
 use Rattle.primitives.specs.declared.Refusal as Code
 use Rattle.body_reading.specs.Store.{Tab, add, store, tab}
 use Rattle.body_reading.specs.Walk.{Runs, on, rowFrom, walk}
-use Rattle.body_reading.proofs.Flat.{Flat}
+use Rattle.body_reading.proofs.Front.{Flat}
 use Rattle.body_reading.proofs.RowCells.{alone-no, alone-took, cells-end, cells-if-no, cells-if-took, cells-no, cells-took, first-no, first-took}
 use Rattle.body_reading.proofs.Stores.{store-append}
 use Rattle.body_reading.specs.Cells.{fieldCells}

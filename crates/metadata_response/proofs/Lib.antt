@@ -1,16 +1,12 @@
 -- a broker, read and stored
 pub mod BrokerRows
--- marks, and numbers whose bytes are there
-pub mod MarkSteps
+-- numbers whose bytes are there
 pub mod Turned
--- nodes, and arrays of them
+-- marks, nodes, and arrays of nodes
 pub mod NodeRows
-pub mod NodeCounts
 -- partitions
 pub mod PartitionCells
-pub mod PartitionRows
 -- topics
-pub mod TopicCells
 pub mod TopicRows
 -- what stands around brokers and topics
 pub mod Around

@@ -1,31 +1,90 @@
--- Nodes into their table: one turn of the loop over them, those that have no room, and those whose bytes are missing.
-use mathlib.Core.List.{List, [], _∷_}
-use mathlib.Core.Bool.{false}
+-- Nodes into their table: marks, which move on by one a cell and stop at the limit; one turn of the loop over nodes, those that have no room, those whose bytes are missing, and an array of them at the end of a row, of which a null one is a count of its own.
 use mathlib.Core.Path.{_∙_, _≡_, ap, refl, subst, sym}
+use mathlib.Core.List.{List, [], _∷_}
+use mathlib.Core.Bool.{false, true}
 use Prim.Native.Nat.{_*_, _+_, _-_, _<_, _≤_, min, suc, zero, ℕ}
 use native.Mathlib.Decide.{decLe}
 use native.Mathlib.Omega.{arith}
 use lib.ListN.{length, length-set, set}
+use Rattle.body_reading.specs.Store.{State, Tab, add, limit, step, store, tab}
 use Rattle.layout.specs.Reading.{Refusal, bad, because, loop, ok}
-use Rattle.layout.specs.Primitives.{cell, w32}
+use Rattle.layout.specs.Primitives.{Size, cell, fixed, kept, minus, w32}
 use Rattle.layout.specs.Rows.{end, field, number}
 use Rattle.layout.specs.Read.{byPlace, read, readBasic}
-use Rattle.layout.specs.Tables.{cells}
+use Rattle.layout.specs.Tables.{cells, countCell}
+use Rattle.body_reading.specs.Walk.{Places, Runs, beside, inPlace, on, walk}
+use Rattle.body_reading.specs.Walked.{besideIs, filledIs}
+use Rattle.body_reading.specs.declared.walks.Filled.{Filled}
+use Rattle.primitives.specs.Parts.{counted}
+use Rattle.primitives.specs.Answers.{ofRefusal}
+use Rattle.primitives.specs.declared.Refusal as Code
+use Rattle.body_reading.specs.declared.walks.Counted.{Counted}
+use Rattle.metadata_response.specs.Numbers.{steps}
+use Rattle.metadata_response.specs.TopicShapes.{nodeShape, nodesShape}
+use Rattle.body_reading.proofs.Stores.{step-not, step-up, store-in, store-out}
 use Rattle.layout.proofs.Contents.{rowCells}
 use Rattle.body_reading.proofs.FrontAt.{cell-at}
-use Rattle.body_reading.specs.Store.{State, limit, step, store, tab}
-use Rattle.body_reading.specs.Walk.{Runs, inPlace, on, walk}
-use Rattle.body_reading.proofs.Flat.{placed-took, row-no, row-took}
-use Rattle.body_reading.proofs.Front.{reads-end, reads-no, reads-took}
-use Rattle.body_reading.proofs.Loops.{Going, going-done, going-next, going-start}
-use Rattle.body_reading.proofs.Chains.{loop-next, loop-no}
-use Rattle.body_reading.proofs.Stores.{step-up, store-in, store-out}
-use Rattle.metadata_response.specs.Numbers.{steps}
-use Rattle.metadata_response.specs.TopicShapes.{nodeShape}
-use Rattle.metadata_response.proofs.MarkSteps.{step-on, steps-none, steps-some, steps-turn}
+use Rattle.body_reading.proofs.Front.{placed-took, reads-end, reads-no, reads-took, row-no, row-took}
+use Rattle.body_reading.proofs.Chains.{Going, give-took, going-done, going-next, going-start, loop-next, loop-no}
+use Rattle.layout.proofs.Tests.{one-more}
+use Rattle.body_reading.proofs.Arrays.{array-no, array-no-count, array-took, row-end}
+use Rattle.body_reading.proofs.Beside.{behindCount, items-beside}
 use Rattle.metadata_response.proofs.Turned.{cell-missing}
-use Rattle.body_reading.specs.Walked.{filledIs}
-use Rattle.body_reading.specs.declared.walks.Filled.{Filled}
+
+pub step-on : (k : ℕ) → k ≤ step k
+step-on k =
+    elim (decLe limit k) [
+      | yes h ↦ let e = step-not k h in omega arith
+      | no h ↦ let e = step-up k (omega arith) in omega arith
+    ]
+
+-- below the limit, at it, and over it
+pub steps-near : (n k : ℕ) → k + n ≤ limit → k + n ≡ steps n k
+unfolding steps
+steps-near zero k h = omega arith
+steps-near (suc n) k h =
+    let e : k + suc n ≡ k + 1 + n = omega arith in
+    e ∙ steps-near n (k + 1) (omega arith) ∙ ap (steps n) (step-up k (omega arith))
+
+pub steps-over : (n k : ℕ) → limit ≤ k → k ≡ steps n k
+unfolding steps
+steps-over zero k h = refl
+steps-over (suc n) k h = steps-over n k h ∙ ap (steps n) (step-not k h)
+
+pub steps-stop : (n k : ℕ) → k ≤ limit → limit ≤ k + n → limit ≡ steps n k
+unfolding steps
+steps-stop zero k h g = omega arith
+steps-stop (suc n) k h g =
+    elim (decLe limit k) [
+      | yes i ↦ let e : limit ≡ k = omega arith in e ∙ steps-over (suc n) k i
+      | no i ↦ steps-stop n (k + 1) (omega arith) (omega arith) ∙ ap (steps n) (step-up k (omega arith))
+    ]
+
+-- one cell, and those behind it
+pub steps-turn : (n k : ℕ) → 0 < n → k < limit → steps n k ≡ steps (n - 1) (k + 1)
+unfolding steps
+steps-turn zero k h g = absurd (omega arith)
+steps-turn (suc n) k h g =
+    let step-up-back : step k ≡ k + 1 = let e = step-up k g in omega arith in
+    let e : n ≡ suc n - 1 = omega arith in
+    (λ i. steps (e i) (step-up-back i))
+
+steps-on : (n k : ℕ) → k ≤ steps n k
+unfolding steps
+steps-on zero k = omega arith
+steps-on (suc n) k = let e = step-on k in let g = steps-on n (step k) in omega arith
+
+-- a mark that did not move, where it could
+pub steps-none : (n k : ℕ) → steps n k ≤ k → k < limit → n ≡ 0
+unfolding steps
+steps-none zero k h g = refl
+steps-none (suc n) k h g = let e = step-up k g in let i = steps-on n (step k) in absurd (omega arith)
+
+-- a mark that moved
+pub steps-some : (n k : ℕ) → k < steps n k → 0 < n
+unfolding steps
+steps-some zero k h = absurd (omega arith)
+steps-some (suc n) k h = omega arith
 
 module _ (s : List ℕ) where
   node-read : (p v q : ℕ) → ok v q ≡ on (cell w32) s p → ok (v, tt) q ≡ on (read (byPlace false) (field (number w32) end)) s p
@@ -136,3 +195,47 @@ module _ (s : List ℕ) (count p : ℕ) (l₀ : List ℕ) (k₀ : ℕ) where
               | yes i ↦ i
               | no i ↦ let b = f .mark in let g = steps-none (f .left) row (omega arith) (omega arith) in absurd (omega arith)
             ]
+
+abbrev nullable : Size
+nullable = fixed w32 kept
+
+-- one more than a number is not the null
+some-count : (n : ℕ) → n ≡ countCell true (n + 1)
+unfolding countCell
+some-count n = rw (one-more n) (omega arith)
+
+module _ (s : List ℕ) (p : ℕ) (l : List ℕ) (k : ℕ) where
+  pub count-no : (c : Refusal) → bad c ≡ on (counted nullable) s p → Runs (λ e. walk false (nodesShape (e .0 .t)) (e .0 .o)) s p (beside l k) (λ e. bad c)
+  unfolding counted nodesShape
+  count-no c h = record { law = λ e. array-no-count false nullable (e .0 .t) nodeShape end (e .0 .o) (beside l k e) s p c h }
+
+  abbrev nulled : Places × Tab → State
+  nulled e = add (e .0 .o) (minus ∷ []) (beside l k e)
+
+  pub count-null : (q : ℕ) → ok 0 q ≡ on (counted nullable) s p → Runs (λ e. walk false (nodesShape (e .0 .t)) (e .0 .o)) s p (beside l k) (besideIs l (Counted.Took minus q k))
+  unfolding counted nodesShape countCell loop
+  count-null q h = record {
+    law = λ e.
+        ap (λ (u : State). ok u q) (sym (e .0 .row-law (e .1) (tab l k) (minus ∷ [])))
+        ∙ array-took false nullable (e .0 .t) nodeShape end (e .0 .o) (beside l k e) s p 0 q h (nulled e) q (ok (nulled e) q) (give-took (nulled e) s q) (row-end false (e .0 .o) (nulled e) s q);
+  }
+
+  module _ (n q : ℕ) (d : ok (n + 1) q ≡ on (counted nullable) s p) (l′ : List ℕ) (r : Filled) (h : Runs (λ e. loop n (walk false nodeShape (e .o))) s q (inPlace l k) (filledIs l′ r)) where
+    abbrev stored : ℕ → Places × Tab → State
+    stored j e = e .0 .h (store (e .1) (n ∷ [])) (tab l′ j)
+
+    looped : (y : Filled) → r ≡ y → (e : Places × Tab) → filledIs l′ y (behindCount (e .0) (e .1) n) ≡ on (loop (n + 1 - 1) (walk false nodeShape (e .0 .t)) (add (e .0 .o) (countCell true (n + 1) ∷ []) (beside l k e))) s q
+    looped y w e =
+        let m : n ≡ n + 1 - 1 = omega arith in
+        items-beside nodeShape s q l k n n (filledIs l′) r y h w e
+        ∙ (λ i. on (loop (m i) (walk false nodeShape (e .0 .t)) (add (e .0 .o) (some-count n i ∷ []) (beside l k e))) s q)
+
+    pub nodes-at-no : (c : Code.Refusal) → r ≡ Filled.Refused c → Runs (λ e. walk false (nodesShape (e .0 .t)) (e .0 .o)) s p (beside l k) (besideIs l′ (Counted.Refused c))
+    unfolding counted nodesShape
+    nodes-at-no c i = record { law = λ e. array-no false nullable (e .0 .t) nodeShape end (e .0 .o) (beside l k e) s p (n + 1) q d (ofRefusal c) (looped (Filled.Refused c) i e) }
+
+    pub nodes-at-took : (u j : ℕ) → r ≡ Filled.Took u j → Runs (λ e. walk false (nodesShape (e .0 .t)) (e .0 .o)) s p (beside l k) (besideIs l′ (Counted.Took n u j))
+    unfolding counted nodesShape behindCount
+    nodes-at-took u j i = record {
+      law = λ e. array-took false nullable (e .0 .t) nodeShape end (e .0 .o) (beside l k e) s p (n + 1) q d (stored j e) u (ok (stored j e) u) (looped (Filled.Took u j) i e) (row-end false (e .0 .o) (stored j e) s u);
+    }

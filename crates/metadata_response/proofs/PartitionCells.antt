@@ -1,27 +1,35 @@
--- The numbers of a partition: field by field, where all bytes are there, and where some are missing.
+-- A partition into the tables: its numbers, field by field, where all bytes are there and where some are missing, and each way out of the walk over it.
 use mathlib.Core.List.{List, [], _++_, _∷_}
-use mathlib.Core.Path.{_∙_, _≡_, ap, sym}
+use mathlib.Core.Path.{_∙_, _≡_, ap, refl, sym}
+use mathlib.Core.Bool.{false}
 use Prim.Native.Nat.{_+_, _-_, _<_, _≤_, ℕ}
 use native.Mathlib.Omega.{arith}
 use lib.ListN.{drop, length, take}
 use lib.Seq.{drop-drop}
-use Rattle.layout.specs.Reading.{Refusal, bad, because, ok}
-use Rattle.layout.specs.Primitives.{cell, w16, w32}
-use Rattle.layout.specs.Rows.{Shape, end, field, number}
+use Rattle.layout.specs.Reading.{Refusal, Res, bad, because, ok}
+use Rattle.layout.specs.Primitives.{cell, fixed, kept, w16, w32}
+use Rattle.layout.specs.Rows.{Shape, array, end, field, number}
 use Rattle.layout.specs.Read.{readBasic}
 use Rattle.layout.specs.Tables.{cells}
+use Rattle.primitives.specs.declared.Refusal as Code
+use Rattle.body_reading.specs.Store.{State, Tab, add, step, store, tab}
+use Rattle.body_reading.specs.Walk.{Places, Runs, beside, on, rowFrom, walk}
+use Rattle.primitives.specs.Answers.{ofRefusal}
+use Rattle.body_reading.specs.Walked.{besideIs}
+use Rattle.body_reading.specs.declared.walks.Counted.{Counted}
+use Rattle.metadata_response.specs.TopicShapes.{nodeShape, nodesShape, partitionFront, partitionShape}
+use Rattle.metadata_response.specs.TopicWalks.{Before, RowStored, inPartitions, ofPartitionRow, partitionsIs}
+use Rattle.metadata_response.specs.declared.partitions.PartitionRow.{PartitionRow}
+use Rattle.metadata_response.specs.declared.marks.Marked.{Marked}
+use Rattle.metadata_response.specs.declared.marks.Marks.{Marks}
 use Rattle.layout.proofs.Local.{not-ok}
 use Rattle.body_reading.proofs.FrontAt.{cell-at}
-use Rattle.primitives.specs.declared.Refusal as Code
-use Rattle.body_reading.specs.Store.{step, store, tab}
-use Rattle.body_reading.specs.Walk.{on, rowFrom}
 use Rattle.body_reading.proofs.Chains.{same-value}
-use Rattle.body_reading.proofs.Stores.{four-out, store-both}
-use Rattle.body_reading.proofs.RowCells.{cells-end, cells-no, cells-took}
-use Rattle.metadata_response.specs.TopicShapes.{partitionFront}
-use Rattle.metadata_response.specs.TopicWalks.{RowStored, ofPartitionRow}
-use Rattle.metadata_response.specs.declared.partitions.PartitionRow.{PartitionRow}
-use Rattle.metadata_response.proofs.Turned.{all-left, cell-missing, cell-on}
+use Rattle.body_reading.proofs.Stores.{four-out, store-append, store-both}
+use Rattle.body_reading.proofs.RowCells.{cells-end, cells-no, cells-took, row-no, row-took}
+use Rattle.body_reading.proofs.Joined.{joined-no, joined-took}
+use Rattle.metadata_response.proofs.Turned.{cell-missing, cell-on}
+use Rattle.primitives.proofs.Behind.{rest-in}
 
 module _ (s : List ℕ) (p : ℕ) where
   abbrev two : Shape
@@ -62,10 +70,10 @@ module _ (s : List ℕ) (p : ℕ) where
   left = take (length s - p) (drop p s)
 
   left-from : (k : ℕ) → take (length left - k) (drop k left) ≡ drop (p + k) s
-  left-from k = all-left left k ∙ ap (drop k) (all-left s p) ∙ drop-drop k p s
+  left-from k = rest-in left k ∙ ap (drop k) (rest-in s p) ∙ drop-drop k p s
 
   pub numbers-left : (a b c : ℕ) → ok a 2 ≡ cell w16 0 left → ok b 4 ≡ cell w32 0 (take (length left - 2) (drop 2 left)) → ok c 4 ≡ cell w32 0 (take (length left - 6) (drop 6 left)) → ok (a ∷ b ∷ c ∷ []) (p + 10) ≡ on (rowFrom [] partitionFront) s p
-  numbers-left a b c d g h = numbers-there a b c (cell-on w16 s left p a (all-left s p) d) (cell-on w32 s _ (p + 2) b (left-from 2) g) (cell-on w32 s _ (p + 6) c (left-from 6) h)
+  numbers-left a b c d g h = numbers-there a b c (cell-on w16 s left p a (rest-in s p) d) (cell-on w32 s _ (p + 2) b (left-from 2) g) (cell-on w32 s _ (p + 6) c (left-from 6) h)
 
   -- the first number that is not whole
   module _ (c : Refusal) where
@@ -94,3 +102,66 @@ module _ (s : List ℕ) (p : ℕ) where
       -- there is no such row
       pub row-none : (c : Code.Refusal) → x ≡ PartitionRow.Refused c → RowStored s p l k count synced l′ r
       row-none c d = record { law = λ a b c q e. not-ok (sym (ap ofPartitionRow d) ∙ h ∙ sym e) }
+
+-- behind the numbers: replicas, and in-sync replicas
+abbrev arrays : Shape
+arrays = array (fixed w32 kept) 4 nodeShape (array (fixed w32 kept) 5 nodeShape end)
+
+-- the partitions' table and that of replicas, and the one of in-sync replicas
+placeOne : Before → Marks → List ℕ → Places
+unfolding add
+placeOne e m is = record { h = λ x y. e .row ∷ e .brokers ∷ tab (e .topics) (m .topics) ∷ x ∷ y ∷ tab is (m .synced) ∷ []; o = 3; t = 4; row-law = λ x y cs. refl; items-law = λ x y cs. refl }
+
+placeTwo : Before → Marks → List ℕ → ℕ → Places
+unfolding add
+placeTwo e m rs k = record { h = λ x y. e .row ∷ e .brokers ∷ tab (e .topics) (m .topics) ∷ x ∷ tab rs k ∷ y ∷ []; o = 3; t = 5; row-law = λ x y cs. refl; items-law = λ x y cs. refl }
+
+module _ (s : List ℕ) (p : ℕ) (ps rs is : List ℕ) (m : Marks) (r : PartitionRow) (h : ofPartitionRow r ≡ on (rowFrom [] partitionFront) s p) where
+  pub partition-no : (c : Code.Refusal) → r ≡ PartitionRow.Refused c → Runs (λ e. walk false partitionShape 3) s p (inPartitions ps rs is m) (λ e. bad (ofRefusal c))
+  unfolding partitionShape partitionFront
+  partition-no c d = record { law = λ e. row-no partitionFront tt s p arrays 3 (inPartitions ps rs is m e) (ofRefusal c) (ap ofPartitionRow (sym d) ∙ h) }
+
+  module _ (a b c q : ℕ) (d : r ≡ PartitionRow.Took a b c q) where
+    -- the partitions' table once the numbers are stored
+    abbrev numbered : Tab
+    numbered = store (tab ps (m .partitions)) (a ∷ b ∷ c ∷ [])
+
+    from-numbers : (e : Before) (z : Res State) → z ≡ on (walk false arrays 3 (e .row ∷ e .brokers ∷ tab (e .topics) (m .topics) ∷ numbered ∷ tab rs (m .replicas) ∷ tab is (m .synced) ∷ [])) s q → z ≡ on (walk false partitionShape 3 (inPartitions ps rs is m e)) s p
+    unfolding partitionShape partitionFront add
+    from-numbers e z g = row-took partitionFront tt s p arrays 3 (inPartitions ps rs is m e) (a ∷ b ∷ c ∷ []) q (ap ofPartitionRow (sym d) ∙ h) z g
+
+    module _ (rs′ : List ℕ) (x : Counted) (l : Runs (λ e. walk false (nodesShape (e .0 .t)) (e .0 .o)) s q (beside rs (m .replicas)) (besideIs rs′ x)) where
+      pub replicas-no : (f : Code.Refusal) → x ≡ Counted.Refused f → Runs (λ e. walk false partitionShape 3) s p (inPartitions ps rs is m) (λ e. bad (ofRefusal f))
+      unfolding placeOne nodesShape
+      replicas-no f g = record {
+        law = λ e. from-numbers e _ (joined-no false (nodesShape 5) 3 (nodesShape 4) _ s q (ofRefusal f) (ap (λ (y : Counted). besideIs rs′ y (placeOne e m is, numbered)) (sym g) ∙ l .law (placeOne e m is, numbered)));
+      }
+
+      module _ (n u k : ℕ) (g : x ≡ Counted.Took n u k) where
+        abbrev withReplicas : Tab
+        withReplicas = store numbered (n ∷ [])
+
+        from-replicas : (e : Before) (z : Res State) → z ≡ on (walk false (nodesShape 5) 3 (e .row ∷ e .brokers ∷ tab (e .topics) (m .topics) ∷ withReplicas ∷ tab rs′ k ∷ tab is (m .synced) ∷ [])) s u → z ≡ on (walk false partitionShape 3 (inPartitions ps rs is m e)) s p
+        unfolding placeOne nodesShape
+        from-replicas e z j = from-numbers e z (joined-took false (nodesShape 5) 3 (nodesShape 4) _ s q _ u (ap (λ (y : Counted). besideIs rs′ y (placeOne e m is, numbered)) (sym g) ∙ l .law (placeOne e m is, numbered)) z j)
+
+        module _ (is′ : List ℕ) (y : Counted) (l₂ : Runs (λ e. walk false (nodesShape (e .0 .t)) (e .0 .o)) s u (beside is (m .synced)) (besideIs is′ y)) where
+          from-synced : (e : Before) → besideIs is′ y (placeTwo e m rs′ k, withReplicas) ≡ on (walk false partitionShape 3 (inPartitions ps rs is m e)) s p
+          unfolding placeTwo
+          from-synced e = from-replicas e _ (l₂ .law (placeTwo e m rs′ k, withReplicas))
+
+          pub synced-no : (f : Code.Refusal) → y ≡ Counted.Refused f → Runs (λ e. walk false partitionShape 3) s p (inPartitions ps rs is m) (λ e. bad (ofRefusal f))
+          synced-no f j = record { law = λ e. ap (λ (y : Counted). besideIs is′ y (placeTwo e m rs′ k, withReplicas)) (sym j) ∙ from-synced e }
+
+          pub partition-took : (n₂ v k₂ : ℕ) → y ≡ Counted.Took n₂ v k₂ → (ps′ : List ℕ) (i : ℕ) → tab ps′ i ≡ store (tab ps (m .partitions)) (a ∷ b ∷ c ∷ n ∷ n₂ ∷ []) →
+              Runs (λ e. walk false partitionShape 3) s p (inPartitions ps rs is m) (partitionsIs ps′ rs′ is′ (Marked.Took v (record { topics = m .topics; partitions = i; replicas = k; synced = k₂ })))
+          unfolding placeTwo
+          partition-took n₂ v k₂ j ps′ i w = record {
+            law = λ e.
+                (λ t. ok (e .row ∷ e .brokers ∷ tab (e .topics) (m .topics) ∷ (w ∙ sym both) t ∷ tab rs′ k ∷ tab is′ k₂ ∷ []) v)
+                ∙ ap (λ (y : Counted). besideIs is′ y (placeTwo e m rs′ k, withReplicas)) (sym j)
+                ∙ from-synced e;
+          }
+            where
+              both : store withReplicas (n₂ ∷ []) ≡ store (tab ps (m .partitions)) (a ∷ b ∷ c ∷ n ∷ n₂ ∷ [])
+              both = store-append numbered (n ∷ []) (n₂ ∷ []) ∙ store-append (tab ps (m .partitions)) (a ∷ b ∷ c ∷ []) (n ∷ n₂ ∷ [])

@@ -14,14 +14,14 @@ use Rattle.layout.proofs.Local.{not-ok}
 use Rattle.layout.proofs.Proper.{metadata-response}
 use Rattle.primitives.specs.Answers.{noRoom, ofRefusal, versionOf}
 use Rattle.primitives.specs.declared.Refusal as Code
+use Rattle.primitives.proofs.Versions.{up-to}
 use Rattle.body_reading.specs.Meter.{lengths, metered, short}
 use Rattle.body_reading.specs.Store.{State, own, tab}
 use Rattle.body_reading.specs.Walk.{on, walk}
 use Rattle.body_reading.proofs.Bound.{lean, slim, taken}
 use Rattle.body_reading.proofs.Close.{slices, tabs}
 use Rattle.body_reading.proofs.Metered.{is-known, measured-no, measured-took, metered-fits, metered-no, metered-short}
-use Rattle.body_reading.proofs.Reply.{up-to-four}
-use Rattle.body_reading.proofs.Rooms.{cells-here, cells-next, short-here, short-next, short-none}
+use Rattle.body_reading.proofs.Reply.{cells-here, cells-next, short-here, short-next, short-none}
 use Rattle.metadata_response.specs.Brokers.{brokerShape}
 use Rattle.metadata_response.specs.TopicShapes.{nodeShape, partitionShape, topicShape}
 use Rattle.metadata_response.specs.declared.marks.Marks.{Marks}
@@ -45,7 +45,7 @@ row-widths = refl
 -- the layout of a version, by what sets it apart
 pub shape-is : (v : ℕ) → v ≤ 4 → shape Meta.response v ≡ bodyShape v
 unfolding shape at stands standing Meta.nodeRows Meta.partitionRows Meta.topicRows Meta.brokerRows Meta.responseRows bodyShape tailShape brokerShape topicShape partitionShape nodeShape
-shape-is = up-to-four (λ v. shape Meta.response v ≡ bodyShape v) refl refl refl refl refl
+shape-is = up-to 4 (λ v. shape Meta.response v ≡ bodyShape v) (refl, (refl, (refl, (refl, refl))))
 
 -- ---- room, in table order
 
@@ -54,38 +54,26 @@ module _ (k : ℕ) (m : Marks) (b t p r i : ℕ) where
   Lacks o = ofRoom o ≡ short (widths Meta.response) (sizes k m) (b ∷ t ∷ p ∷ r ∷ i ∷ [])
 
   pub short-brokers : b / 7 < k / 7 → Lacks (Room.Needs (k / 7))
-  short-brokers h = rw row-widths (sym (short-here 7 _ k _ b _ h))
+  short-brokers h = simp (row-widths, short-here)
 
   module _ (f : k / 7 ≤ b / 7) where
-    behind-brokers : short (widths Meta.response) (sizes k m) (b ∷ t ∷ p ∷ r ∷ i ∷ []) ≡ short (5 ∷ 5 ∷ 1 ∷ 1 ∷ []) (m .topics ∷ m .partitions ∷ m .replicas ∷ m .synced ∷ []) (t ∷ p ∷ r ∷ i ∷ [])
-    behind-brokers = rw row-widths (short-next 7 _ k _ b _ f)
-
     pub short-topics : t / 5 < m .topics / 5 → Lacks (Room.Needs (m .topics / 5))
-    short-topics h = sym (behind-brokers ∙ short-here 5 _ (m .topics) _ t _ h)
+    short-topics h = simp (row-widths, short-next, short-here)
 
     module _ (g : m .topics / 5 ≤ t / 5) where
-      behind-topics : short (widths Meta.response) (sizes k m) (b ∷ t ∷ p ∷ r ∷ i ∷ []) ≡ short (5 ∷ 1 ∷ 1 ∷ []) (m .partitions ∷ m .replicas ∷ m .synced ∷ []) (p ∷ r ∷ i ∷ [])
-      behind-topics = behind-brokers ∙ short-next 5 _ (m .topics) _ t _ g
-
       pub short-partitions : p / 5 < m .partitions / 5 → Lacks (Room.Needs (m .partitions / 5))
-      short-partitions h = sym (behind-topics ∙ short-here 5 _ (m .partitions) _ p _ h)
+      short-partitions h = simp (row-widths, short-next, short-here)
 
       module _ (h : m .partitions / 5 ≤ p / 5) where
-        behind-partitions : short (widths Meta.response) (sizes k m) (b ∷ t ∷ p ∷ r ∷ i ∷ []) ≡ short (1 ∷ 1 ∷ []) (m .replicas ∷ m .synced ∷ []) (r ∷ i ∷ [])
-        behind-partitions = behind-topics ∙ short-next 5 _ (m .partitions) _ p _ h
-
         pub short-replicas : r < m .replicas → Lacks (Room.Needs (m .replicas))
-        short-replicas j = sym (behind-partitions ∙ cells-here _ (m .replicas) _ r _ j)
+        short-replicas j = simp (row-widths, short-next, cells-here)
 
         module _ (j : m .replicas ≤ r) where
-          behind-replicas : short (widths Meta.response) (sizes k m) (b ∷ t ∷ p ∷ r ∷ i ∷ []) ≡ short (1 ∷ []) (m .synced ∷ []) (i ∷ [])
-          behind-replicas = behind-partitions ∙ cells-next _ (m .replicas) _ r _ j
-
           pub short-synced : i < m .synced → Lacks (Room.Needs (m .synced))
-          short-synced l = sym (behind-replicas ∙ cells-here _ (m .synced) _ i _ l)
+          short-synced l = simp (row-widths, short-next, cells-next, cells-here)
 
           pub short-nowhere : m .synced ≤ i → Lacks Room.Enough
-          short-nowhere l = sym (behind-replicas ∙ cells-next _ (m .synced) _ i _ l ∙ short-none [] [])
+          short-nowhere l = simp (row-widths, short-next, cells-next, short-none)
 
 -- ---- the measure
 

@@ -1,26 +1,54 @@
--- A topic into the tables: each way out of the walk over it.
+-- A topic into the tables: the fields in front of its partitions, one by one, and each way out of the walk over it.
 use mathlib.Core.Bool.{Bool, false, true}
 use mathlib.Core.List.{List, [], _∷_}
 use mathlib.Core.Path.{_∙_, _≡_, ap, refl, sym}
 use Prim.Native.Nat.{ℕ}
 use Rattle.layout.specs.Reading.{Refusal, Res, bad, loop, ok}
-use Rattle.layout.specs.Primitives.{empty, fixed, w32}
-use Rattle.layout.specs.Rows.{Shape, array, end, stands}
+use Rattle.layout.specs.Primitives.{cell, empty, fixed, never, w16, w32}
+use Rattle.layout.specs.Rows.{Basic, Shape, array, boolean, end, field, number, stands, text}
+use Rattle.layout.specs.Read.{byPlace, readBasic}
+use Rattle.layout.specs.Tables.{Span, cells, span}
+use Rattle.body_reading.specs.Walk.{Runs, on, rowFrom, walk}
 use Rattle.primitives.specs.Answers.{ofRefusal}
 use Rattle.primitives.specs.declared.Refusal as Code
 use Rattle.body_reading.specs.Moved.{arrayItems}
 use Rattle.body_reading.specs.Store.{State, Tab, add, store, tab}
-use Rattle.body_reading.specs.Walk.{Runs, on, rowFrom, walk}
-use Rattle.body_reading.proofs.Arrays.{items-no, items-no-count, items-took, row-end}
-use Rattle.body_reading.proofs.Flat.{Flat}
-use Rattle.body_reading.proofs.Front.{onto}
-use Rattle.body_reading.proofs.RowCells.{row-no, row-took}
-use Rattle.body_reading.proofs.Stores.{store-append}
 use Rattle.metadata_response.specs.TopicShapes.{partitionShape, topicFront, topicShape}
 use Rattle.metadata_response.specs.TopicWalks.{Before, inPartitions, inTopics, ofTopicRow, partitionsIs, topicsIs}
 use Rattle.metadata_response.specs.declared.marks.Marked.{Marked}
 use Rattle.metadata_response.specs.declared.marks.Marks.{Marks}
 use Rattle.metadata_response.specs.declared.topics.TopicRow.{TopicRow}
+use Rattle.body_reading.proofs.RowCells.{cells-end, cells-if-no, cells-if-took, cells-no, cells-took, row-no, row-took}
+use Rattle.body_reading.proofs.Arrays.{items-no, items-no-count, items-took, row-end}
+use Rattle.body_reading.proofs.Front.{Flat, onto}
+use Rattle.body_reading.proofs.Stores.{store-append}
+
+abbrev name : Basic
+name = text (fixed w16 never)
+
+module _ (f : Bool) (s : List ℕ) (p : ℕ) where
+  abbrev flag : Shape
+  flag = stands f boolean end
+
+  pub error-no : (c : Refusal) → bad c ≡ on (cell w16) s p → bad c ≡ on (rowFrom [] (topicFront f)) s p
+  unfolding topicFront readBasic
+  error-no c e = cells-no [] (number w16) (field name flag) s p c e
+
+  module _ (a q : ℕ) (d : ok a q ≡ on (cell w16) s p) where
+    pub name-no : (c : Refusal) → bad c ≡ on (readBasic (byPlace false) name) s q → bad c ≡ on (rowFrom [] (topicFront f)) s p
+    unfolding topicFront readBasic cells
+    name-no c e = cells-took [] (number w16) (field name flag) s p a q d (bad c) (cells-no (a ∷ []) name flag s q c e)
+
+    module _ (x : Span) (u : ℕ) (g : ok x u ≡ on (readBasic (byPlace false) name) s q) where
+      pub internal-no : (c : Refusal) → bad c ≡ on (rowFrom [] (stands f boolean end)) s u → bad c ≡ on (rowFrom [] (topicFront f)) s p
+      unfolding topicFront readBasic cells span
+      internal-no c e = cells-took [] (number w16) (field name flag) s p a q d (bad c) (cells-took (a ∷ []) name flag s q x u g (bad c) (cells-if-no f boolean end (a ∷ x .0 ∷ x .1 ∷ []) s u c e))
+
+      pub fields-took : (i n : ℕ) → ok (i ∷ []) n ≡ on (rowFrom [] (stands f boolean end)) s u → ok (a ∷ x .0 ∷ x .1 ∷ i ∷ []) n ≡ on (rowFrom [] (topicFront f)) s p
+      unfolding topicFront readBasic cells span
+      fields-took i n e =
+          cells-took [] (number w16) (field name flag) s p a q d _
+          (cells-took (a ∷ []) name flag s q x u g _ (cells-if-took f boolean end (a ∷ x .0 ∷ x .1 ∷ []) s u (i ∷ []) n e _ (cells-end (a ∷ x .0 ∷ x .1 ∷ i ∷ []) s n)))
 
 -- the partitions, behind the fields
 abbrev partitions : Shape

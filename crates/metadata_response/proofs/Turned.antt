@@ -2,80 +2,52 @@
 use mathlib.Core.List.{List}
 use mathlib.Core.Logic.{_≢_}
 use mathlib.Core.Path.{_∙_, _≡_, ap, refl, sym}
-use Prim.Native.Nat.{_*_, _+_, _-_, _<_, _^_, _≤_, ℕ}
-use native.Mathlib.Nat.{add-zero}
+use Prim.Native.Nat.{_+_, _-_, _<_, _^_, _≤_, ℕ}
 use native.Mathlib.Omega.{arith}
 use lib.ListN.{drop, length, length-drop, take}
-use lib.Seq.{take-all}
-use Rattle.layout.specs.Primitives.{Width, be, bits, cell, cellOf, fixed, int, kept, signed, size, w16, w32, w64, w8}
-use Rattle.layout.specs.Reading.{Reader, Refusal, Res, bad, because, give, more, ok}
+use Rattle.layout.specs.Primitives.{Width, be, bits, cell, cellOf, fixed, kept, signed, size, w32}
+use Rattle.layout.specs.Reading.{Reader, Refusal, Res, bad, because, more, ok}
 use Rattle.layout.proofs.Cells.{extend-high, extend-low, powers}
-use Rattle.layout.proofs.Steps.{int-ok, then-ok}
-use Rattle.primitives.proofs.Cells.{int-is}
+use Rattle.primitives.proofs.Cells.{cell-is, int-is}
 use Rattle.primitives.specs.declared.Number.{Number}
 use Rattle.primitives.specs.Parts.{counted, ofLength}
-use Rattle.primitives.proofs.LengthsRead.{length-below, length-is, length-null, length-some}
+use Rattle.primitives.proofs.Behind.{rest-in, length-below, length-is, length-null, length-some}
+use Rattle.body_reading.proofs.Bound.{some-bytes}
 use Rattle.body_reading.proofs.Moves.{still}
 use Rattle.body_reading.specs.Walk.{on}
-use Rattle.body_reading.proofs.FrontAt.{front-cell, front-counted}
-use Rattle.body_reading.proofs.OnRest.{at-place, portable-cell, portable-counted, took-at}
+use Rattle.body_reading.proofs.FrontAt.{at-place, front-cell, front-counted, portable-cell, portable-counted, took-at}
 use Rattle.metadata_response.specs.Numbers.{Turned}
 
--- the rest from p on, as code cuts it out
-pub all-left : (s : List ℕ) (p : ℕ) → take (length s - p) (drop p s) ≡ drop p s
-all-left s p = take-all (length s - p) (drop p s) (omega (arith, length-drop p s))
-
 module _ (w : Width) where
-  -- at the front of what is left
-  cell-front : (s : List ℕ) → size w ≤ length s → ok (cellOf (signed w (be 0 (take (size w) s)))) (size w) ≡ cell w 0 s
-  unfolding cell give
-  cell-front s h =
-      sym
-      (then-ok (int (size w)) _ 0 s (be 0 (take (size w) s)) (size w) (int-ok (size w) 0 s h)
-      ∙ ap (λ (n : ℕ). ok (cellOf (signed w (be 0 (take (size w) s)))) n) (add-zero (size w)))
-
   -- the bit of the sign was set, and it was not
   module _ (s : List ℕ) (m : ℕ) (h : size w ≤ length s) (t : Turned (2 ^ (bits w - 1)) (be 0 (take (size w) s)) m) where
     pub cell-set : m < 2 ^ (bits w - 1) → ok (m + (2 ^ 64 - 2 ^ (bits w - 1))) (size w) ≡ cell w 0 s
-    cell-set z = ap (λ (c : ℕ). ok c (size w)) same ∙ cell-front s h
-      where
-        same : m + (2 ^ 64 - 2 ^ (bits w - 1)) ≡ cellOf (signed w (be 0 (take (size w) s)))
-        same =
-            let q = powers w in
-            let g = t .given z in
-            let x = extend-high w (be 0 (take (size w) s)) (omega arith) (omega (arith, q .half)) in
-            omega (arith, q .half, q .whole)
+    cell-set z =
+        let q = powers w in
+        let g = t .given z in
+        let x = extend-high w (be 0 (take (size w) s)) (omega arith) (omega (arith, q .half)) in
+        let same : m + (2 ^ 64 - 2 ^ (bits w - 1)) ≡ cellOf (signed w (be 0 (take (size w) s))) = omega (arith, q .half, q .whole) in
+        ap (λ (c : ℕ). ok c (size w)) same ∙ cell-is w s _ h refl
 
     pub cell-unset : 2 ^ (bits w - 1) ≤ m → ok (m - 2 ^ (bits w - 1)) (size w) ≡ cell w 0 s
-    cell-unset z = ap (λ (c : ℕ). ok c (size w)) same ∙ cell-front s h
-      where
-        same : m - 2 ^ (bits w - 1) ≡ cellOf (signed w (be 0 (take (size w) s)))
-        same =
-            let g = t .unset z in
-            let a = t .below in
-            let x = extend-low w (be 0 (take (size w) s)) (omega arith) in
-            omega arith
+    cell-unset z =
+        let g = t .unset z in
+        let a = t .below in
+        let x = extend-low w (be 0 (take (size w) s)) (omega arith) in
+        let same : m - 2 ^ (bits w - 1) ≡ cellOf (signed w (be 0 (take (size w) s))) = omega arith in
+        ap (λ (c : ℕ). ok c (size w)) same ∙ cell-is w s _ h refl
 
   -- at the place where the rest starts; and on the rest as code cuts it out
   pub cell-on : (s left : List ℕ) (p v : ℕ) → left ≡ drop p s → ok v (size w) ≡ cell w 0 left → ok v (p + size w) ≡ on (cell w) s p
   cell-on s left p v i e = took-at (cell w) still (portable-cell w) s left p i v (size w) e
 
   pub cell-cut : (s : List ℕ) (p v : ℕ) → ok v (size w) ≡ cell w 0 (take (length s - p) (drop p s)) → ok v (p + size w) ≡ on (cell w) s p
-  cell-cut s p v e = cell-on s _ p v (all-left s p) e
-
-  some-bytes : 1 ≤ size w
-  some-bytes = go w
-    where
-      go : (w : Width) → 1 ≤ size w
-      go w8 = omega arith
-      go w16 = omega arith
-      go w32 = omega arith
-      go w64 = omega arith
+  cell-cut s p v e = cell-on s _ p v (rest-in s p) e
 
   -- a number whose bytes are not there
   pub cell-missing : (s : List ℕ) (p : ℕ) → length s < p + size w → bad (because 3 p) ≡ on (cell w) s p
   unfolding on
-  cell-missing s p h = sym (ap (more p) (front-cell w .short p (drop p s) (omega (arith, length-drop p s, some-bytes))))
+  cell-missing s p h = sym (ap (more p) (front-cell w .short p (drop p s) (omega (arith, length-drop p s, some-bytes w))))
 
 -- ---- the count of an array that may be null
 
@@ -96,7 +68,7 @@ module _ (s : List ℕ) (p : ℕ) where
     number = be 0 (take 4 left)
 
     judged : (o : Res ℕ) → o ≡ ofLength 2147483648 4294967295 (Number.Took number 4) → o ≡ count 0 left
-    judged o e = length-is w32 kept left (Number.Took number 4) o (int-is 4 left number (omega (arith, length-drop p s, ap length (all-left s p))) refl) e
+    judged o e = length-is w32 kept left (Number.Took number 4) o (int-is 4 left number (omega (arith, length-drop p s, ap length (rest-in s p))) refl) e
 
     pub count-took : 2147483648 ≤ m → ok (m - 2147483648 + 1) (p + 4) ≡ on count s p
     count-took i =
@@ -104,14 +76,14 @@ module _ (s : List ℕ) (p : ℕ) where
         let b = t .unset i in
         let d : m - 2147483648 ≡ number = omega arith in
         ap (λ (k : ℕ). ok (k + 1) (p + 4)) d
-        ∙ took-at count still (portable-counted (fixed w32 kept)) s left p (all-left s p) (number + 1) 4 (judged _ (length-some (Number.Took number 4) 2147483648 4294967295 number 4 refl (omega arith)))
+        ∙ took-at count still (portable-counted (fixed w32 kept)) s left p (rest-in s p) (number + 1) 4 (judged _ (length-some (Number.Took number 4) 2147483648 4294967295 number 4 refl (omega arith)))
 
     pub count-null : m ≡ 2147483647 → ok 0 (p + 4) ≡ on count s p
     count-null i =
         let b = t .given (omega arith) in
-        took-at count still (portable-counted (fixed w32 kept)) s left p (all-left s p) 0 4 (judged _ (length-null (Number.Took number 4) 2147483648 4294967295 number 4 refl (omega arith) (omega arith)))
+        took-at count still (portable-counted (fixed w32 kept)) s left p (rest-in s p) 0 4 (judged _ (length-null (Number.Took number 4) 2147483648 4294967295 number 4 refl (omega arith) (omega arith)))
 
     pub count-below : m < 2147483648 → m ≢ 2147483647 → (c : Refusal) → c ≡ because 4 p → bad c ≡ on count s p
     count-below i j c e =
         let b = t .given i in
-        at-place count still (portable-counted (fixed w32 kept)) s left p (all-left s p) (bad (because 4 0)) _ (judged _ (length-below (Number.Took number 4) 2147483648 4294967295 number 4 refl (omega arith) (λ z. j (omega arith)) (because 4 0) refl)) (ap bad e)
+        at-place count still (portable-counted (fixed w32 kept)) s left p (rest-in s p) (bad (because 4 0)) _ (judged _ (length-below (Number.Took number 4) 2147483648 4294967295 number 4 refl (omega arith) (λ z. j (omega arith)) (because 4 0) refl)) (ap bad e)

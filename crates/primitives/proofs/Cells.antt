@@ -120,7 +120,7 @@ module _ (w : Width) (s : List ℕ) where
   unfolding cell
   cell-short e i h = ap bad i ∙ sym (then-bad (int (size w)) _ 0 s (because 3 0) (int-bad (size w) 0 s h))
 
-  cell-is : (n : ℕ) → size w ≤ length s → n ≡ be 0 (take (size w) s) → ok (extend w n) (size w) ≡ cell w 0 s
+  pub cell-is : (n : ℕ) → size w ≤ length s → n ≡ be 0 (take (size w) s) → ok (extend w n) (size w) ≡ cell w 0 s
   unfolding cell give
   cell-is n h e =
       sym (then-ok (int (size w)) _ 0 s (be 0 (take (size w) s)) (size w) (int-ok (size w) 0 s h) ∙ (λ i. ok (extend w (sym e i)) (add-zero (size w) i)))

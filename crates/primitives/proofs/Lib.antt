@@ -3,11 +3,8 @@ pub mod Cells
 pub mod Signed
 -- the loop of an unsigned varint, and zigzag
 pub mod Varint
-pub mod Zigzag
 -- lengths and counts, what is after them, and what is left of a slice
-pub mod LengthsRead
 pub mod Behind
-pub mod Rest
 -- versions, and a Boolean as a number
 pub mod Versions
 pub mod Set

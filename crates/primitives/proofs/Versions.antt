@@ -1,8 +1,8 @@
--- A version that is not negative is its own number, and one that a message does not have is refused with 1.
+-- A version that is not negative is its own number, and one that a message does not have is refused with 1. What holds of all versions is shown one by one, by `up-to` and `between`.
 use mathlib.Core.Bool.{Bool, false, true}
 use mathlib.Core.List.{List}
 use mathlib.Core.Path.{_∙_, _≡_, ap, refl, sym}
-use Prim.Native.Nat.{_<_, _^_, _≤_, ℕ}
+use Prim.Native.Nat.{_-_, _<_, _^_, _≤_, ℕ}
 use native.Mathlib.Omega.{arith}
 use lib.Dec.{T}
 use lib.IntN.{natAbs, negsuc, pos, ℤ}
@@ -17,6 +17,7 @@ use Rattle.layout.specs.Answers.{Answer, Message, made, prefixRead, readAnswer,
 use Rattle.layout.proofs.Calls as Calls
 use Rattle.layout.proofs.Calls.{read-refused, version-above}
 use Rattle.layout.proofs.Tests.{le-false}
+pub use Rattle.utf8.proofs.Lines.{Each, between, up-to}
 use Rattle.primitives.specs.Answers.{versionOf}
 
 not-both : {b : Bool} → b ≡ true → b ≡ false → ⊥

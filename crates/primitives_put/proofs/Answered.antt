@@ -1,18 +1,27 @@
--- A call that writes a primitive by itself: what it answers of the bytes put, and of a number too wide.
-use mathlib.Core.Bool.{Bool, cond, false, true}
+-- What a call answers: of a body at a version that is known, and of a primitive by itself.
 use mathlib.Core.List.{List, [], _++_}
+use mathlib.Core.Logic.{_≢_}
 use mathlib.Core.Path.{_∙_, _≡_, ap, refl, sym}
-use Prim.Native.Nat.{_<_, _≤_, ℕ}
+use mathlib.Core.Bool.{Bool, cond, false, true}
+use Prim.Native.Nat.{_<_, _≤_, suc, zero, ℕ}
 use lib.Dec.{leb}
 use lib.ListN.{drop, length}
 use Rattle.layout.specs.Answers.{Answer, accepted, refused, writeAlone}
 use Rattle.layout.specs.Reading.{Refusal, because}
 use Rattle.layout.specs.Write.{unless}
-use Rattle.layout.proofs.Tests.{le-false, le-true}
 use Rattle.primitives.specs.Answers.{noRoom}
 use Rattle.primitives_put.specs.Put.{Put}
 use Rattle.primitives_put.specs.Answers.{ofWritten, replied, told}
 use Rattle.primitives_put.specs.declared.Written.{Written}
+use Rattle.layout.proofs.Tests.{le-false, le-true}
+
+pub refused-alone : (e : ℕ) (bs out : List ℕ) (r : Refusal) → r ≡ because e 0 → e ≢ 0 → {f : ℕ} → e ≡ f → _≡_ {A = Answer × List ℕ} (refused r, out) (writeAlone f bs out)
+unfolding writeAlone
+refused-alone zero bs out r i h j = absurd (h refl)
+refused-alone (suc e) bs out r i h j = (λ t. (refused (i t), out)) ∙ ap (λ (f : ℕ). writeAlone f bs out) j
+
+pub answered-alone : {e f : ℕ} (bs out : List ℕ) (o : Answer × List ℕ) → e ≡ f → e ≡ 0 → o ≡ writeAlone 0 bs out → o ≡ writeAlone f bs out
+answered-alone bs out o i h k = k ∙ ap (λ (f : ℕ). writeAlone f bs out) (sym h ∙ i)
 
 pub told-all : (room n : ℕ) → n ≤ room → accepted [] n ≡ told room n
 unfolding told

@@ -34,10 +34,9 @@ pub record Minus (x y : ℤ) : Type 0 where
 
 pub minus : (x : ℤ) → SFits w64 x → leZ (pos 0) x ≡ false → Minus x (negsuc 0 -ℤ x)
 minus (pos n) h e = let z : _≡_ {A = ℕ} 0 1 = cc (leb·zero n) in absurd (omega arith)
-minus (negsuc n) h e = subst (Minus (negsuc n)) (sym less-one) (record { narrow = omega arith; sign = tt; small = omega arith; below = omega arith; is = omega arith })
-  where
-    less-one : negsuc 0 -ℤ negsuc n ≡ pos n
-    less-one = rw (le-ltb (suc n) 1 (omega arith)) (ap pos (omega arith))
+minus (negsuc n) h e =
+    let less-one : negsuc 0 -ℤ negsuc n ≡ pos n = rw (le-ltb (suc n) 1 (omega arith)) (ap pos (omega arith)) in
+    subst (Minus (negsuc n)) (sym less-one) (record { narrow = omega arith; sign = tt; small = omega arith; below = omega arith; is = omega arith })
 
 -- a cell that holds a small number: from 0 on, or below 0
 module _ (half c : ℕ) where

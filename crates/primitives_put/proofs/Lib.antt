@@ -2,16 +2,13 @@
 pub mod Stored
 pub mod Shortest
 -- bytes copied, at once and in parts, and what is after its length
-pub mod Lengths
 pub mod Parts
 -- the cell of a number, and the width that holds it
 pub mod Carried
 -- a step after another, and item after item; the same for walks, whose counts stop above the limit
-pub mod Step
 pub mod Capped
 -- the answer of a call: of a primitive by itself, and of a body, which is a refusal or its bytes
 pub mod Answered
-pub mod Answer
 -- one walk, run twice: measured, and then written
 pub mod Measured
 -- a promise determines the reply and the output

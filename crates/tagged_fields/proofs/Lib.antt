@@ -1,6 +1,4 @@
 -- read: a tag's row, the number of tags and the tags, and the whole reply
-pub mod Rows
-pub mod Count
 pub mod Replies
 -- written: part by part, from a row to the answer of the call
 pub mod Tags

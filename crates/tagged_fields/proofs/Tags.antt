@@ -8,7 +8,7 @@ use native.Mathlib.Nat.{add-zero}
 use native.Mathlib.Omega.{arith}
 use lib.Dec.{eqb, lit<, lit≤}
 use lib.IntN.{pos}
-use lib.ListN.{drop, getD, length, length-drop, length-take, take}
+use lib.ListN.{drop, getD, length, take}
 use lib.Seq.{getD-drop, getD-take}
 use borrow.Rule.Slice.PartMut.{midOf, putMid}
 use Rattle.layout.specs.Answers.{Answer, refused, shape, tagsAlone, writeAlone, writeAnswer}
@@ -22,17 +22,15 @@ use Rattle.layout.proofs.Tests.{lt-true, of-eq}
 use Rattle.primitives_put.specs.Step.{Capped, Step, cap}
 use Rattle.body_reading.specs.Tagged.{tagShape, tagsShape}
 use Rattle.body_writing.specs.Writes.{bytesAt, countedBytes, faultAt, refusalOf, rowBytes, rowFault, rowsBytes}
-use Rattle.primitives_put.proofs.Capped.{capped, capped-as, capped-behind}
+use Rattle.primitives_put.proofs.Capped.{capped, capped-as, capped-behind, step-behind}
 use Rattle.layout.proofs.Chunks.{row-cell}
-use Rattle.primitives_put.proofs.Step.{step-behind}
 use Rattle.body_writing.proofs.Writes.{all-bytes, array-fault, rowValue}
 use Rattle.primitives_put.specs.Put.{Put, behindLength}
 use Rattle.primitives_put.proofs.Stored.{put-step}
 use Rattle.body_writing.specs.Asked.{allRanged, ranged}
-use Rattle.body_writing.proofs.Cells.{Cells, cells-drop}
-use Rattle.body_writing.proofs.Counts.{rows-other, rows-same}
+use Rattle.body_writing.proofs.Counts.{Cells, cells-drop, rows-other, rows-same}
 use Rattle.body_writing.proofs.Lent.{good-one}
-use Rattle.primitives_put.proofs.Answer.{refused-alone}
+use Rattle.primitives_put.proofs.Answered.{refused-alone}
 use Rattle.body_writing.proofs.Called.{called}
 
 is-tags : shape tagsAlone 0 ≡ tagsShape true 1

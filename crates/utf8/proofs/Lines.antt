@@ -1,18 +1,45 @@
--- The class of a byte tells the line of the grammar by which a text that begins with it goes on. Assumes nothing.
-use mathlib.Core.Bool.{Bool, true, false, cond, false≢true}
+-- The class of a byte tells the line of the grammar by which a text that begins with it goes on: a rule of a table, proved at all of its entries by one test that antt computes. Assumes nothing.
+use mathlib.Core.Path.{_∙_, _≡_, ap, refl, subst, sym}
+use mathlib.Core.Bool.{Bool, cond, false, false≢true, true}
 use mathlib.Core.List.{List, [], _∷_}
 use mathlib.Core.Logic.{_≢_}
-use mathlib.Core.Path.{_≡_, _∙_, refl, ap, sym}
-use Prim.Native.Nat.{ℕ, zero, suc, _+_, _≤_, _<_}
+use Prim.Native.Nat.{_+_, _-_, _<_, _≤_, suc, zero, ℕ}
+use native.Mathlib.Nat.{add-suc, add-zero, le-of-suc-le-suc, not-suc-le-zero, suc-add, zero-add}
 use native.Mathlib.Numerals.{add-one}
 use native.Mathlib.Omega.{arith}
 use lib.Dec.{T, eqb, eqb→eq}
-use lib.ListN.{length, drop, getD, List·getD-eq-default}
+use lib.ListN.{List·getD-eq-default, drop, getD, length}
 use lib.Seq.{drop-cons}
-use Rattle.layout.specs.Utf8.{Range, within, characters, begins, first, tail}
-use Rattle.layout.proofs.Text.{rising, rising-rest, characters-rise, first-at, first-past}
-use Rattle.utf8.proofs.Entries.{at, both, both-left, both-right, every}
-use Rattle.utf8.specs.Class.{Right, starts, lineOf, classOf, second, secondOf, after}
+use Rattle.layout.specs.Utf8.{Range, begins, characters, first, tail, within}
+use Rattle.utf8.specs.Class.{Right, after, classOf, lineOf, second, secondOf, starts}
+use Rattle.layout.proofs.Text.{characters-rise, first-at, first-past, rising, rising-rest}
+
+abbrev pub both : Bool → Bool → Bool
+both true b = b
+both false b = false
+
+pub both-left : (a b : Bool) → T (both a b) → T a
+both-left true b t = tt
+both-left false b t = t
+
+pub both-right : (a b : Bool) → T (both a b) → T b
+both-right true b t = t
+both-right false b t = absurd t
+
+-- the test f passes at each entry of the list and its place, counted from i
+abbrev pub every : (ℕ → ℕ → Bool) → ℕ → List ℕ → Bool
+every f i [] = true
+every f i (x ∷ xs) = both (f i x) (every f (suc i) xs)
+
+from : (f : ℕ → ℕ → Bool) (xs : List ℕ) (i : ℕ) → T (every f i xs) → (k : ℕ) → k < length xs → T (f (i + k) (getD xs k 0))
+from f [] i t k h = absurd (not-suc-le-zero h)
+from f (x ∷ xs) i t zero h = subst (λ (m : ℕ). T (f m x)) (sym (add-zero i)) (both-left (f i x) (every f (suc i) xs) t)
+from f (x ∷ xs) i t (suc k) h =
+    subst (λ (m : ℕ). T (f m (getD xs k 0))) (suc-add i k ∙ sym (add-suc i k))
+    (from f xs (suc i) (both-right (f i x) (every f (suc i) xs) t) k (le-of-suc-le-suc h))
+
+pub at : (f : ℕ → ℕ → Bool) (xs : List ℕ) → T (every f 0 xs) → (k : ℕ) → k < length xs → T (f k (getD xs k 0))
+at f xs t k h = subst (λ (m : ℕ). T (f m (getD xs k 0))) (zero-add k) (from f xs 0 t k h)
 
 -- the test of one entry, and the rule: a table whose 256 entries all pass it is right
 unfoldable pub as-grammar : ℕ → ℕ → Bool
@@ -43,18 +70,19 @@ by-class : (b k : ℕ) (s : List ℕ) → k ≡ classOf b → first characters (
 unfolding classOf
 by-class b k s e = by-line 0 characters characters-rise b s ∙ ap (λ (j : ℕ). followed (getD characters j []) s) (sym e)
 
--- the classes of three and four bytes, one by one
-from-2-to-8 : (P : ℕ → Type 0) → P 2 → P 3 → P 4 → P 5 → P 6 → P 7 → P 8 → (k : ℕ) → 2 ≤ k → k < 9 → P k
-from-2-to-8 P p2 p3 p4 p5 p6 p7 p8 zero h g = absurd (omega arith)
-from-2-to-8 P p2 p3 p4 p5 p6 p7 p8 (suc zero) h g = absurd (omega arith)
-from-2-to-8 P p2 p3 p4 p5 p6 p7 p8 (suc (suc zero)) h g = p2
-from-2-to-8 P p2 p3 p4 p5 p6 p7 p8 (suc (suc (suc zero))) h g = p3
-from-2-to-8 P p2 p3 p4 p5 p6 p7 p8 (suc (suc (suc (suc zero)))) h g = p4
-from-2-to-8 P p2 p3 p4 p5 p6 p7 p8 (suc (suc (suc (suc (suc zero))))) h g = p5
-from-2-to-8 P p2 p3 p4 p5 p6 p7 p8 (suc (suc (suc (suc (suc (suc zero)))))) h g = p6
-from-2-to-8 P p2 p3 p4 p5 p6 p7 p8 (suc (suc (suc (suc (suc (suc (suc zero))))))) h g = p7
-from-2-to-8 P p2 p3 p4 p5 p6 p7 p8 (suc (suc (suc (suc (suc (suc (suc (suc zero)))))))) h g = p8
-from-2-to-8 P p2 p3 p4 p5 p6 p7 p8 (suc (suc (suc (suc (suc (suc (suc (suc (suc k))))))))) h g = absurd (omega arith)
+-- what holds of the numbers up to n, and of those from a on, one by one
+abbrev pub Each : ℕ → (ℕ → Type 0) → Type 0
+Each zero P = P 0
+Each (suc n) P = P 0 × Each n (λ v. P (suc v))
+
+pub up-to : (n : ℕ) (P : ℕ → Type 0) → Each n P → (v : ℕ) → v ≤ n → P v
+up-to zero P a zero h = a
+up-to zero P a (suc v) h = absurd (omega arith)
+up-to (suc n) P a zero h = a .0
+up-to (suc n) P a (suc v) h = up-to n (λ v. P (suc v)) (a .1) v (omega arith)
+
+pub between : (a n : ℕ) (P : ℕ → Type 0) → Each n (λ j. P (a + j)) → (v : ℕ) → a ≤ v → v ≤ a + n → P v
+between a n P ps v h k = let e : a + (v - a) ≡ v = omega arith in subst P e (up-to n (λ j. P (a + j)) ps (v - a) (omega arith))
 
 -- how a text goes on, by the class of its first byte
 one : (b k : ℕ) (s : List ℕ) → k ≡ classOf b → k ≡ 0 → first characters (b ∷ s) ≡ 1
@@ -68,36 +96,12 @@ two b k s e z = by-class b 1 s (sym z ∙ e)
 three : (b k : ℕ) (s : List ℕ) → k ≡ classOf b → 2 ≤ k → k < 6 → first characters (b ∷ s) ≡ after (secondOf k ∷ tail ∷ []) s
 unfolding characters followed secondOf second
 three b k s e h g =
-    by-class b k s e
-    ∙ from-2-to-8 (λ j. j < 6 → followed (getD characters j []) s ≡ after (secondOf j ∷ tail ∷ []) s)
-    (λ l. refl)
-    (λ l. refl)
-    (λ l. refl)
-    (λ l. refl)
-    (λ l. absurd (omega arith))
-    (λ l. absurd (omega arith))
-    (λ l. absurd (omega arith))
-    k
-    h
-    (omega arith)
-    g
+    by-class b k s e ∙ between 2 3 (λ j. followed (getD characters j []) s ≡ after (secondOf j ∷ tail ∷ []) s) (refl, (refl, (refl, refl))) k h (omega arith)
 
 four : (b k : ℕ) (s : List ℕ) → k ≡ classOf b → 6 ≤ k → k < 9 → first characters (b ∷ s) ≡ after (secondOf k ∷ tail ∷ tail ∷ []) s
 unfolding characters followed secondOf second
 four b k s e h g =
-    by-class b k s e
-    ∙ from-2-to-8 (λ j. 6 ≤ j → followed (getD characters j []) s ≡ after (secondOf j ∷ tail ∷ tail ∷ []) s)
-    (λ l. absurd (omega arith))
-    (λ l. absurd (omega arith))
-    (λ l. absurd (omega arith))
-    (λ l. absurd (omega arith))
-    (λ l. refl)
-    (λ l. refl)
-    (λ l. refl)
-    k
-    (omega arith)
-    g
-    h
+    by-class b k s e ∙ between 6 2 (λ j. followed (getD characters j []) s ≡ after (secondOf j ∷ tail ∷ tail ∷ []) s) (refl, (refl, refl)) k h (omega arith)
 
 none : (b k : ℕ) (s : List ℕ) → k ≡ classOf b → 9 ≤ k → first characters (b ∷ s) ≡ 0
 unfolding characters followed
@@ -135,15 +139,9 @@ low-6 k e = rw e
 
 pub low-other : (k : ℕ) → 2 ≤ k → k < 9 → k ≢ 2 → k ≢ 6 → secondOf k .0 ≡ 0x80
 unfolding secondOf second characters
-low-other =
-    from-2-to-8 (λ j. j ≢ 2 → j ≢ 6 → secondOf j .0 ≡ 0x80)
-    (λ f g. absurd (f refl))
-    (λ f g. refl)
-    (λ f g. refl)
-    (λ f g. refl)
-    (λ f g. absurd (g refl))
-    (λ f g. refl)
-    (λ f g. refl)
+low-other k h l =
+    between 2 6 (λ j. j ≢ 2 → j ≢ 6 → secondOf j .0 ≡ 0x80)
+    ((λ f g. absurd (f refl)), ((λ f g. refl), ((λ f g. refl), ((λ f g. refl), ((λ f g. absurd (g refl)), ((λ f g. refl), (λ f g. refl))))))) k h (omega arith)
 
 pub high-4 : (k : ℕ) → k ≡ 4 → secondOf k .1 ≡ 0x9F
 unfolding secondOf second characters
@@ -155,12 +153,6 @@ high-8 k e = rw e
 
 pub high-other : (k : ℕ) → 2 ≤ k → k < 9 → k ≢ 4 → k ≢ 8 → secondOf k .1 ≡ 0xBF
 unfolding secondOf second characters
-high-other =
-    from-2-to-8 (λ j. j ≢ 4 → j ≢ 8 → secondOf j .1 ≡ 0xBF)
-    (λ f g. refl)
-    (λ f g. refl)
-    (λ f g. absurd (f refl))
-    (λ f g. refl)
-    (λ f g. refl)
-    (λ f g. refl)
-    (λ f g. absurd (g refl))
+high-other k h l =
+    between 2 6 (λ j. j ≢ 4 → j ≢ 8 → secondOf j .1 ≡ 0xBF)
+    ((λ f g. refl), ((λ f g. refl), ((λ f g. absurd (f refl)), ((λ f g. refl), ((λ f g. refl), ((λ f g. refl), (λ f g. absurd (g refl)))))))) k h (omega arith)

@@ -1,5 +1,5 @@
 -- The three rows are the definition's, with the ranges of the three APIs.
-use Rattle.api_versions_agreement.proofs.ThreeRows.{three-rows}
+use Rattle.api_versions_agreement.proofs.FirstRow.{three-rows}
 use borrow.Author.Needs.{needs}
 use Rattle.api_versions_agreement.proofs.agree.Statement.{statement}
 use Rattle.api_versions_agreement.proofs.agree.Tie as tie

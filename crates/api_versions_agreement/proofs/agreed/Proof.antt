@@ -1,5 +1,5 @@
 -- The range found is that of the key's first row, and each cell is shown as the number that it stands for.
-use Rattle.api_versions_agreement.proofs.ThreeRows.{row-listed, row-unlisted}
+use Rattle.api_versions_agreement.proofs.FirstRow.{row-listed, row-unlisted}
 use borrow.Author.Needs.{needs}
 use Rattle.api_versions_agreement.proofs.agreed.Statement.{statement}
 use Rattle.api_versions_agreement.proofs.agreed.Tie as tie

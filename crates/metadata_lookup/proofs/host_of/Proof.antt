@@ -5,7 +5,7 @@ use Rattle.layout.specs.Messages.Metadata as Meta
 use Rattle.primitives.proofs.Versions.{passed}
 use Rattle.body_reading.proofs.Metered.{metered-same}
 use Rattle.metadata_response.specs.Answers.{ofMeasure}
-use Rattle.metadata_lookup.proofs.Answered.{answer-no, answer-took}
+use Rattle.metadata_lookup.proofs.Bodies.{answer-no, answer-took}
 use borrow.Author.Needs.{needs}
 use Rattle.metadata_lookup.proofs.host_of.Statement.{statement}
 use Rattle.metadata_lookup.proofs.host_of.Tie as tie

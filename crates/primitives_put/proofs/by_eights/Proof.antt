@@ -1,8 +1,7 @@
 -- Before each turn the first p bytes are copied; the last eight go behind them or over their end.
 use mathlib.Core.Path.{refl}
 use Prim.Native.Nat.{_-_}
-use Rattle.primitives_put.proofs.Lengths.{Copied, copied-start}
-use Rattle.primitives_put.proofs.Parts.{eight-more, eights-end}
+use Rattle.primitives_put.proofs.Parts.{Copied, copied-start, eight-more, eights-end}
 use Rattle.primitives_put.proofs.Stored.{put-none}
 use borrow.Author.Needs.{needs}
 use Rattle.primitives_put.proofs.by_eights.Statement.{statement}

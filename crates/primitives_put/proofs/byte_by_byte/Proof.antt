@@ -2,7 +2,7 @@ use mathlib.Core.Path.{refl}
 use Prim.Native.Nat.{_-_}
 use lib.ListN.{length}
 use borrow.Author.Needs.{needs}
-use Rattle.primitives_put.proofs.Lengths.{Copied, copied-again, copied-end, copied-start}
+use Rattle.primitives_put.proofs.Parts.{Copied, copied-again, copied-end, copied-start}
 use Rattle.primitives_put.proofs.Stored.{put-none}
 use Rattle.primitives_put.proofs.byte_by_byte.Statement.{statement}
 use Rattle.primitives_put.proofs.byte_by_byte.Tie as tie

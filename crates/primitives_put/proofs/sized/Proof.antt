@@ -1,7 +1,7 @@
 use native.Mathlib.Omega.{arith}
 use lib.ListN.{length}
 use Rattle.primitives_put.specs.Put.{sizeOf}
-use Rattle.primitives_put.proofs.Lengths.{length-small, sized-all, sized-none}
+use Rattle.primitives_put.proofs.Parts.{length-small, sized-all, sized-none}
 use borrow.Author.Needs.{needs}
 use Rattle.primitives_put.proofs.sized.Statement.{statement}
 use Rattle.primitives_put.proofs.sized.Tie as tie

@@ -1,6 +1,6 @@
 -- Each way out is a law over the bytes behind the first.
 use borrow.Author.Needs.{needs}
-use Rattle.utf8.proofs.Rest.{bad-2, bad-3, cut, whole-3}
+use Rattle.utf8.proofs.Steps.{bad-2, bad-3, cut, whole-3}
 use Rattle.utf8.proofs.three.Statement.{statement}
 use Rattle.utf8.proofs.three.Tie as tie
 

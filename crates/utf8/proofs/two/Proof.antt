@@ -1,6 +1,6 @@
 -- Each way out is a law over the bytes behind the first.
 use borrow.Author.Needs.{needs}
-use Rattle.utf8.proofs.Rest.{bad-2, cut, whole-2}
+use Rattle.utf8.proofs.Steps.{bad-2, cut, whole-2}
 use Rattle.utf8.proofs.two.Statement.{statement}
 use Rattle.utf8.proofs.two.Tie as tie
 

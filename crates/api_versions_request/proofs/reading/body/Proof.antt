@@ -1,5 +1,5 @@
 -- Versions below 3 have no field, and 3 is the only one left.
-use Rattle.api_versions_request.proofs.Rows.{as-flexible, nothing-read}
+use Rattle.api_versions_request.proofs.Replies.{as-flexible, nothing-read}
 use borrow.Author.Needs.{needs}
 use Rattle.api_versions_request.proofs.reading.body.Statement.{statement}
 use Rattle.api_versions_request.proofs.reading.body.Tie as tie

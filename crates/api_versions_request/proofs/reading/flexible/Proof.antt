@@ -1,7 +1,7 @@
 -- Field behind field: each is a step of the walk, and its cells stand behind those before.
 use mathlib.Core.Path.{_∙_, ap, sym}
 use Rattle.primitives.specs.Parts.{ofPart}
-use Rattle.api_versions_request.proofs.Rows.{all-took, no-name, no-tags, no-version}
+use Rattle.api_versions_request.proofs.Replies.{all-took, no-name, no-tags, no-version}
 use borrow.Author.Needs.{needs}
 use Rattle.api_versions_request.proofs.reading.flexible.Statement.{statement}
 use Rattle.api_versions_request.proofs.reading.flexible.Tie as tie

@@ -1,5 +1,5 @@
 -- A number refuses; and else what is answered is that of the bytes.
-use Rattle.primitives_put.proofs.Answer.{answered-alone, refused-alone}
+use Rattle.primitives_put.proofs.Answered.{answered-alone, refused-alone}
 use Rattle.api_versions_request.proofs.Request.{texts-same}
 use borrow.Author.Needs.{needs}
 use Rattle.api_versions_request.proofs.writing.written.Statement.{statement}

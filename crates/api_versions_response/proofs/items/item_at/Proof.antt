@@ -1,7 +1,6 @@
 -- An item without tags; else the numbers, the tags behind them, and one store of the numbers and the number of tags.
 use native.Mathlib.Omega.{arith}
-use Rattle.api_versions_response.proofs.BareRows.{bare-item}
-use Rattle.api_versions_response.proofs.ItemRows.{item-no, item-no-tags, item-took}
+use Rattle.api_versions_response.proofs.BareRows.{bare-item, item-no, item-no-tags, item-took}
 use borrow.Author.Needs.{needs}
 use Rattle.api_versions_response.proofs.items.item_at.Statement.{statement}
 use Rattle.api_versions_response.proofs.items.item_at.Tie as tie

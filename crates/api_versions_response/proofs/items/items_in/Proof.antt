@@ -2,7 +2,7 @@
 use mathlib.Core.Path.{_≡_, refl}
 use lib.ListN.{length}
 use Rattle.body_reading.specs.Walk.{walk}
-use Rattle.body_reading.proofs.Loops.{Going, going-done, going-start, turn-next, turn-no}
+use Rattle.body_reading.proofs.Chains.{Going, going-done, going-start, turn-next, turn-no}
 use Rattle.api_versions_response.specs.ItemShapes.{keyShape}
 use Rattle.api_versions_response.specs.ItemWalks.{inTables, rowsIs}
 use borrow.Author.Needs.{needs}

@@ -1,7 +1,7 @@
 -- Three numbers, one behind the other.
 use mathlib.Core.Path.{_∙_, ap, sym}
 use Rattle.primitives.specs.Answers.{ofNumber}
-use Rattle.api_versions_response.proofs.ItemRows.{key-no, key-took, max-no, min-no}
+use Rattle.api_versions_response.proofs.BareRows.{key-no, key-took, max-no, min-no}
 use borrow.Author.Needs.{needs}
 use Rattle.api_versions_response.proofs.items.key_at.Statement.{statement}
 use Rattle.api_versions_response.proofs.items.key_at.Tie as tie

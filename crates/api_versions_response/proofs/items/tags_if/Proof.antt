@@ -1,5 +1,5 @@
 -- A version that lacks tags has the cell of their absence in the row.
-use Rattle.api_versions_response.proofs.ItemRows.{tags-lacking, tags-there}
+use Rattle.api_versions_response.proofs.BareRows.{tags-lacking, tags-there}
 use borrow.Author.Needs.{needs}
 use Rattle.api_versions_response.proofs.items.tags_if.Statement.{statement}
 use Rattle.api_versions_response.proofs.items.tags_if.Tie as tie

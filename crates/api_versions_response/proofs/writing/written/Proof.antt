@@ -2,7 +2,7 @@
 use native.Mathlib.Omega.{arith}
 use lib.ListN.{length}
 use Rattle.primitives_put.proofs.Measured.{measured-long, measured-short, measured-written}
-use Rattle.primitives_put.proofs.Answer.{answered-alone, refused-alone}
+use Rattle.primitives_put.proofs.Answered.{answered-alone, refused-alone}
 use Rattle.api_versions_response.proofs.Good.{none-tags}
 use Rattle.api_versions_response.proofs.Whole.{fault-told}
 use borrow.Author.Needs.{needs}

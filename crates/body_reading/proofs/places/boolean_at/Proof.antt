@@ -1,5 +1,5 @@
 -- The step on the rest is a read at the place where the rest starts.
-use Rattle.body_reading.proofs.OnRest.{at-place, fits, portable-flag}
+use Rattle.body_reading.proofs.FrontAt.{at-place, fits, portable-flag}
 use borrow.Author.Needs.{needs}
 use Rattle.body_reading.proofs.places.boolean_at.Statement.{statement}
 use Rattle.body_reading.proofs.places.boolean_at.Tie as tie

@@ -1,5 +1,5 @@
 -- Each form has its own reader.
-use Rattle.body_reading.proofs.Counts.{compact-count, fixed-count}
+use Rattle.body_reading.proofs.DataAt.{compact-count, fixed-count}
 use borrow.Author.Needs.{needs}
 use Rattle.body_reading.proofs.places.count.Statement.{statement}
 use Rattle.body_reading.proofs.places.count.Tie as tie

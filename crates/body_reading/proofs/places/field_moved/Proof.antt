@@ -3,7 +3,7 @@ use mathlib.Core.Path.{_∙_, ap, sym}
 use Rattle.layout.specs.Reading.{bad}
 use Rattle.primitives.specs.Parts.{ofNullable}
 use Rattle.body_reading.specs.Moved.{fromPlace, furtherField}
-use Rattle.body_reading.proofs.PartAt.{field-took}
+use Rattle.body_reading.proofs.DataAt.{field-took}
 use borrow.Author.Needs.{needs}
 use Rattle.body_reading.proofs.places.field_moved.Statement.{statement}
 use Rattle.body_reading.proofs.places.field_moved.Tie as tie

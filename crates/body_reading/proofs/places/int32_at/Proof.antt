@@ -1,8 +1,7 @@
 -- On just its bytes it is read as on the rest, and the step on the rest is a read at the place where the rest starts.
 use mathlib.Core.Path.{refl}
 use Rattle.layout.specs.Primitives.{w32}
-use Rattle.body_reading.proofs.FrontAt.{front-cell, on-front}
-use Rattle.body_reading.proofs.OnRest.{at-place, fits, portable-cell}
+use Rattle.body_reading.proofs.FrontAt.{at-place, fits, front-cell, on-front, portable-cell}
 use borrow.Author.Needs.{needs}
 use Rattle.body_reading.proofs.places.int32_at.Statement.{statement}
 use Rattle.body_reading.proofs.places.int32_at.Tie as tie

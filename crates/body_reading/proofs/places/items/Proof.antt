@@ -1,5 +1,5 @@
 -- A count is one less than what is read, and null is none or refused.
-use Rattle.body_reading.proofs.Counts.{items-refused, no-items, null-items, some-items}
+use Rattle.body_reading.proofs.DataAt.{items-refused, no-items, null-items, some-items}
 use borrow.Author.Needs.{needs}
 use Rattle.body_reading.proofs.places.items.Statement.{statement}
 use Rattle.body_reading.proofs.places.items.Tie as tie

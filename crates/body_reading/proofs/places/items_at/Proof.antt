@@ -1,6 +1,6 @@
 -- The count on the rest, less one, is the number of items at the place where the rest starts.
-use Rattle.body_reading.proofs.Counts.{items-counted}
-use Rattle.body_reading.proofs.OnRest.{at-place, fits, portable-items}
+use Rattle.body_reading.proofs.DataAt.{items-counted}
+use Rattle.body_reading.proofs.FrontAt.{at-place, fits, portable-items}
 use borrow.Author.Needs.{needs}
 use Rattle.body_reading.proofs.places.items_at.Statement.{statement}
 use Rattle.body_reading.proofs.places.items_at.Tie as tie

@@ -1,5 +1,5 @@
 -- The step on the rest is a read at the place where the rest starts.
-use Rattle.body_reading.proofs.PartAt.{field-at, field-fits}
+use Rattle.body_reading.proofs.DataAt.{field-at, field-fits}
 use borrow.Author.Needs.{needs}
 use Rattle.body_reading.proofs.places.nullable_string_at.Statement.{statement}
 use Rattle.body_reading.proofs.places.nullable_string_at.Tie as tie

@@ -1,5 +1,5 @@
 -- The step on the rest is a read at the place where the rest starts.
-use Rattle.body_reading.proofs.PartAt.{part-at, part-fits, shows-string}
+use Rattle.body_reading.proofs.DataAt.{part-at, part-fits, shows-string}
 use borrow.Author.Needs.{needs}
 use Rattle.body_reading.proofs.places.string_at.Statement.{statement}
 use Rattle.body_reading.proofs.places.string_at.Tie as tie

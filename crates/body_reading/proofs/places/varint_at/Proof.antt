@@ -1,7 +1,6 @@
 -- A byte below 128 is the number; else the step on the rest is a read at the place where the rest starts.
 use mathlib.Core.Path.{refl}
-use Rattle.body_reading.proofs.FrontAt.{byte-cut}
-use Rattle.body_reading.proofs.OnRest.{at-place, fits, portable-unsigned}
+use Rattle.body_reading.proofs.FrontAt.{at-place, byte-cut, fits, portable-unsigned}
 use borrow.Author.Needs.{needs}
 use Rattle.body_reading.proofs.places.varint_at.Statement.{statement}
 use Rattle.body_reading.proofs.places.varint_at.Tie as tie

@@ -6,7 +6,7 @@ use native.Mathlib.Omega.{arith}
 use Prim.Native.Nat.{_-_}
 use Rattle.body_writing.proofs.Faults.{rows-clean}
 use Rattle.body_writing.proofs.Judged.{Judged, judged-end, judged-more, judged-start, judged-stop}
-use Rattle.fetch_request.proofs.Fits.{clean, partition-told}
+use Rattle.fetch_request.proofs.Judgement.{clean, partition-told}
 use Rattle.fetch_request.proofs.judge.all_fit.Statement.{statement}
 use Rattle.fetch_request.proofs.judge.all_fit.Tie as tie
 

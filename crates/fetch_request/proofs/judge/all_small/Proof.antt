@@ -4,7 +4,7 @@ use borrow.Author.Tests.{not-false}
 use mathlib.Core.Path.{refl}
 use Prim.Native.Nat.{_*_, _-_, _/_}
 use Rattle.body_writing.proofs.Judged.{Judged, judged-start, pair-more}
-use Rattle.fetch_request.proofs.Fits.{clean, small-end, small-last, sure}
+use Rattle.fetch_request.proofs.Judgement.{clean, small-end, small-last, sure}
 use Rattle.fetch_request.proofs.judge.all_small.Statement.{statement}
 use Rattle.fetch_request.proofs.judge.all_small.Tie as tie
 

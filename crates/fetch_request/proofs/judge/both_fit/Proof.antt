@@ -3,7 +3,7 @@ use borrow.Author.Needs.{needs}
 use borrow.Author.Tests.{not-false, not-true}
 use mathlib.Core.Path.{_∙_}
 use Rattle.body_writing.proofs.Judged.{and-first, and-second}
-use Rattle.fetch_request.proofs.Fits.{is-held}
+use Rattle.fetch_request.proofs.Judgement.{is-held}
 use Rattle.fetch_request.proofs.judge.both_fit.Statement.{statement}
 use Rattle.fetch_request.proofs.judge.both_fit.Tie as tie
 

@@ -1,5 +1,5 @@
 -- Both must be small.
-use Rattle.fetch_request.proofs.Fits.{small-first, small-second}
+use Rattle.fetch_request.proofs.Judgement.{small-first, small-second}
 use Rattle.fetch_request.proofs.judge.both_small.Statement.{statement}
 use Rattle.fetch_request.proofs.judge.both_small.Tie as tie
 

@@ -1,6 +1,6 @@
 -- Three cells for each partition that the row tells, and not so many that the product is too big.
 use native.Mathlib.Omega.{arith}
-use Rattle.fetch_request.proofs.Topic.{cells-are}
+use Rattle.fetch_request.proofs.Judgement.{cells-are}
 use borrow.Author.Needs.{needs}
 use Rattle.fetch_request.proofs.judge.cells.Statement.{statement}
 use Rattle.fetch_request.proofs.judge.cells.Tie as tie

@@ -2,7 +2,7 @@
 use borrow.Author.Needs.{needs}
 use borrow.Author.Tests.{not-false, not-true}
 use native.Mathlib.Omega.{arith}
-use Rattle.fetch_request.proofs.OwnRow.{good-last, good-other, good-untold}
+use Rattle.fetch_request.proofs.Judgement.{good-last, good-other, good-untold}
 use Rattle.fetch_request.proofs.judge.is_good.Statement.{statement}
 use Rattle.fetch_request.proofs.judge.is_good.Tie as tie
 

@@ -1,7 +1,7 @@
 -- The first and the third cell of a row.
 use borrow.Author.Needs.{needs}
 use native.Mathlib.Omega.{arith}
-use Rattle.fetch_request.proofs.Fits.{small-told}
+use Rattle.fetch_request.proofs.Judgement.{small-told}
 use Rattle.fetch_request.proofs.judge.is_small.Statement.{statement}
 use Rattle.fetch_request.proofs.judge.is_small.Tie as tie
 

@@ -2,7 +2,7 @@
 use borrow.Author.Needs.{needs}
 use mathlib.Core.Path.{_∙_}
 use Rattle.body_writing.proofs.Judged.{if-lacking, if-there}
-use Rattle.fetch_request.proofs.Fits.{is-held}
+use Rattle.fetch_request.proofs.Judgement.{is-held}
 use Rattle.fetch_request.proofs.judge.largest_fits.Statement.{statement}
 use Rattle.fetch_request.proofs.judge.largest_fits.Tie as tie
 

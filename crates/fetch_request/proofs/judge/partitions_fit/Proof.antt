@@ -1,7 +1,7 @@
 -- What is small fits.
 use borrow.Author.Needs.{needs}
 use mathlib.Core.Path.{_∙_, sym}
-use Rattle.fetch_request.proofs.Fits.{sure}
+use Rattle.fetch_request.proofs.Judgement.{sure}
 use Rattle.fetch_request.proofs.judge.partitions_fit.Statement.{statement}
 use Rattle.fetch_request.proofs.judge.partitions_fit.Tie as tie
 

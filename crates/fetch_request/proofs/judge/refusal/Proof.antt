@@ -1,7 +1,7 @@
 -- 13 comes before the own row's numbers, and these before the topics.
 use mathlib.Core.Path.{_∙_, sym}
 use borrow.Author.Tests.{not-false, not-true}
-use Rattle.fetch_request.proofs.OwnRow.{fault-bad, fault-lead, fault-limits, fault-topics, good-enough}
+use Rattle.fetch_request.proofs.Judgement.{fault-bad, fault-lead, fault-limits, fault-topics, good-enough}
 use borrow.Author.Needs.{needs}
 use Rattle.fetch_request.proofs.judge.refusal.Statement.{statement}
 use Rattle.fetch_request.proofs.judge.refusal.Tie as tie

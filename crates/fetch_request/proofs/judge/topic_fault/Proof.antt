@@ -4,7 +4,7 @@ use lib.ListN.{length-take}
 use borrow.Author.Tests.{not-false, not-true}
 use borrow.Author.Needs.{needs}
 use Rattle.body_writing.proofs.Faults.{unless-bad, unless-none}
-use Rattle.fetch_request.proofs.Topic.{topic-name, topic-partitions}
+use Rattle.fetch_request.proofs.Judgement.{topic-name, topic-partitions}
 use Rattle.fetch_request.proofs.judge.topic_fault.Statement.{statement}
 use Rattle.fetch_request.proofs.judge.topic_fault.Tie as tie
 

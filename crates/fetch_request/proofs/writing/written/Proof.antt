@@ -1,6 +1,6 @@
 -- A number refuses; and else the bytes are stored.
-use Rattle.primitives_put.proofs.Answer.{answered-alone, refused-alone}
-use Rattle.fetch_request.proofs.OwnRow.{fault-good, good-enough}
+use Rattle.primitives_put.proofs.Answered.{answered-alone, refused-alone}
+use Rattle.fetch_request.proofs.Judgement.{fault-good, good-enough}
 use borrow.Author.Needs.{needs}
 use Rattle.fetch_request.proofs.writing.written.Statement.{statement}
 use Rattle.fetch_request.proofs.writing.written.Tie as tie

@@ -3,7 +3,7 @@ use mathlib.Core.Path.{_∙_, ap, sym}
 use borrow.Author.Needs.{needs}
 use Rattle.primitives.specs.Answers.{ofNumber}
 use Rattle.body_reading.specs.Cells.{ofCell}
-use Rattle.fetch_response.proofs.PartitionCells.{error-no, index-no, numbers-took, offset-no, watermark-no}
+use Rattle.fetch_response.proofs.PartitionRows.{error-no, index-no, numbers-took, offset-no, watermark-no}
 use Rattle.fetch_response.proofs.partitions.partition_row.Statement.{statement}
 use Rattle.fetch_response.proofs.partitions.partition_row.Tie as tie
 

@@ -4,7 +4,7 @@ use mathlib.Core.Path.{_≡_, refl}
 use lib.ListN.{length}
 use borrow.Author.Needs.{needs}
 use Rattle.body_reading.specs.Walk.{walk}
-use Rattle.body_reading.proofs.Loops.{Going, going-done, going-start, turn-next, turn-no}
+use Rattle.body_reading.proofs.Chains.{Going, going-done, going-start, turn-next, turn-no}
 use Rattle.fetch_response.specs.TopicShapes.{partitionShape}
 use Rattle.fetch_response.specs.TopicWalks.{inPartitions, partitionsIs}
 use Rattle.fetch_response.proofs.partitions.partitions_in.Statement.{statement}

@@ -3,7 +3,7 @@ use mathlib.Core.Path.{refl}
 use native.Mathlib.Omega.{arith}
 use borrow.Author.Needs.{needs}
 use Rattle.layout.specs.Primitives.{w16, w32, w64, w8}
-use Rattle.gateway_primitives.proofs.ByKindWritten.{integerWritten, signed-by}
+use Rattle.gateway_primitives.proofs.ByKind.{integerWritten, signed-by}
 use Rattle.gateway_primitives.specs.Kinds.{writeKind, writeOf}
 use Rattle.gateway_primitives.proofs.write_kind.integers.Statement.{statement}
 use Rattle.gateway_primitives.proofs.write_kind.integers.Tie as tie

@@ -5,7 +5,7 @@ use native.Mathlib.Omega.{arith}
 use borrow.Author.Needs.{needs}
 use Rattle.layout.specs.Answers.{writeAlone}
 use Rattle.layout.specs.Primitives.{flagBytes}
-use Rattle.gateway_primitives.proofs.ByKindWritten.{signed-by, varintWritten, varlongWritten, write-by}
+use Rattle.gateway_primitives.proofs.ByKind.{signed-by, varintWritten, varlongWritten, write-by}
 use Rattle.gateway_primitives.specs.Kinds.{writeKind, writeOf}
 use Rattle.gateway_primitives.proofs.write_kind.others.Statement.{statement}
 use Rattle.gateway_primitives.proofs.write_kind.others.Tie as tie

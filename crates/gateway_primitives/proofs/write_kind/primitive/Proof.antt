@@ -2,7 +2,7 @@
 use mathlib.Core.Path.{_∙_}
 use native.Mathlib.Omega.{arith}
 use borrow.Author.Needs.{needs}
-use Rattle.gateway_primitives.proofs.ByKindWritten.{counts-take, no-write, numbers-take, parts-take}
+use Rattle.gateway_primitives.proofs.ByKind.{counts-take, no-write, numbers-take, parts-take}
 use Rattle.gateway_primitives.proofs.write_kind.primitive.Statement.{statement}
 use Rattle.gateway_primitives.proofs.write_kind.primitive.Tie as tie
 

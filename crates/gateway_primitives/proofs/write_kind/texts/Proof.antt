@@ -2,7 +2,7 @@
 use mathlib.Core.Path.{refl}
 use native.Mathlib.Omega.{arith}
 use borrow.Author.Needs.{needs}
-use Rattle.gateway_primitives.proofs.ByKindWritten.{write-by}
+use Rattle.gateway_primitives.proofs.ByKind.{write-by}
 use Rattle.gateway_primitives.specs.Kinds.{writeKind, writeOf}
 use Rattle.gateway_primitives.proofs.write_kind.texts.Statement.{statement}
 use Rattle.gateway_primitives.proofs.write_kind.texts.Tie as tie

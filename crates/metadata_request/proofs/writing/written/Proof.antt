@@ -1,6 +1,6 @@
 -- A number refuses; and else the walk's bytes are measured, judged and written.
 use Rattle.primitives_put.proofs.Measured.{measured-long, measured-short, measured-written}
-use Rattle.primitives_put.proofs.Answer.{answered-alone, refused-alone}
+use Rattle.primitives_put.proofs.Answered.{answered-alone, refused-alone}
 use borrow.Author.Needs.{needs}
 use Rattle.metadata_request.proofs.Request.{all-told}
 use Rattle.metadata_request.proofs.writing.written.Statement.{statement}

@@ -3,7 +3,7 @@ use mathlib.Core.Bool.{false}
 use mathlib.Core.Path.{_≡_, refl}
 use lib.ListN.{length}
 use Rattle.body_reading.specs.Walk.{walk}
-use Rattle.body_reading.proofs.Loops.{Going, going-done, going-start, turn-next, turn-no}
+use Rattle.body_reading.proofs.Chains.{Going, going-done, going-start, turn-next, turn-no}
 use Rattle.metadata_response.specs.Brokers.{atBrokers, brokerShape, filledIs}
 use borrow.Author.Needs.{needs}
 use Rattle.metadata_response.proofs.brokers.brokers_in.Statement.{statement}

@@ -1,7 +1,7 @@
 -- The count is an array's, and the walk over its items is the loop of `nodes_in`, with the row and the table in their places. A null array has no items.
 use mathlib.Core.Path.{_∙_, ap, sym}
 use Rattle.primitives.specs.Parts.{ofCount}
-use Rattle.metadata_response.proofs.NodeCounts.{count-no, count-null, nodes-at-no, nodes-at-took}
+use Rattle.metadata_response.proofs.NodeRows.{count-no, count-null, nodes-at-no, nodes-at-took}
 use borrow.Author.Needs.{needs}
 use Rattle.metadata_response.proofs.nodes.nodes_at.Statement.{statement}
 use Rattle.metadata_response.proofs.nodes.nodes_at.Tie as tie

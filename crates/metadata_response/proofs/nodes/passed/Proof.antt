@@ -1,6 +1,6 @@
 -- Near enough to the limit it stops there; else it moves on by as many.
 use native.Mathlib.Omega.{arith}
-use Rattle.metadata_response.proofs.MarkSteps.{steps-near, steps-over, steps-stop}
+use Rattle.metadata_response.proofs.NodeRows.{steps-near, steps-over, steps-stop}
 use borrow.Author.Needs.{needs}
 use Rattle.metadata_response.proofs.nodes.passed.Statement.{statement}
 use Rattle.metadata_response.proofs.nodes.passed.Tie as tie

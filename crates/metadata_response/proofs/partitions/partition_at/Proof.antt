@@ -1,7 +1,7 @@
 -- The numbers, the two arrays behind them, and one store of the numbers and the arrays' counts.
 use mathlib.Core.Path.{_∙_, ap, sym}
 use Rattle.metadata_response.specs.TopicWalks.{ofPartitionRow}
-use Rattle.metadata_response.proofs.PartitionRows.{partition-no, partition-took, replicas-no, synced-no}
+use Rattle.metadata_response.proofs.PartitionCells.{partition-no, partition-took, replicas-no, synced-no}
 use borrow.Author.Needs.{needs}
 use Rattle.metadata_response.proofs.partitions.partition_at.Statement.{statement}
 use Rattle.metadata_response.proofs.partitions.partition_at.Tie as tie

@@ -3,7 +3,7 @@ use mathlib.Core.Path.{_∙_, ap, sym}
 use Rattle.primitives.specs.Answers.{ofNumber}
 use Rattle.primitives.specs.Parts.{ofPart}
 use Rattle.body_reading.specs.Cells.{ofCell}
-use Rattle.metadata_response.proofs.TopicCells.{error-no, fields-took, internal-no, name-no}
+use Rattle.metadata_response.proofs.TopicRows.{error-no, fields-took, internal-no, name-no}
 use borrow.Author.Needs.{needs}
 use Rattle.metadata_response.proofs.topics.topic_row.Statement.{statement}
 use Rattle.metadata_response.proofs.topics.topic_row.Tie as tie

@@ -2,8 +2,8 @@
 use mathlib.Core.Path.{_∙_, ap, sym}
 use Rattle.layout.specs.Primitives.{kept}
 use Rattle.primitives.specs.Answers.{ofNumber}
-use Rattle.primitives.proofs.LengthsRead.{compact-bad, compact-null, compact-some}
-use Rattle.primitives.proofs.Zigzag.{placed-0}
+use Rattle.primitives.proofs.Behind.{compact-bad, compact-null, compact-some}
+use Rattle.primitives.proofs.Varint.{placed-0}
 use borrow.Author.Needs.{needs}
 use Rattle.primitives.proofs.lengths.compact_length.Statement.{statement}
 use Rattle.primitives.proofs.lengths.compact_length.Tie as tie

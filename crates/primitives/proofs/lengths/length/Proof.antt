@@ -1,7 +1,7 @@
 -- Each way out is a case of the definition.
 use mathlib.Core.Path.{ap, sym}
 use Rattle.primitives.specs.Parts.{ofLength}
-use Rattle.primitives.proofs.LengthsRead.{length-below, length-null, length-some}
+use Rattle.primitives.proofs.Behind.{length-below, length-null, length-some}
 use borrow.Author.Needs.{needs}
 use Rattle.primitives.proofs.lengths.length.Statement.{statement}
 use Rattle.primitives.proofs.lengths.length.Tie as tie

@@ -1,6 +1,6 @@
 -- The number of the width, looked at as a length.
 use Rattle.layout.specs.Primitives.{kept, w32}
-use Rattle.primitives.proofs.LengthsRead.{length-is}
+use Rattle.primitives.proofs.Behind.{length-is}
 use borrow.Author.Needs.{needs}
 use Rattle.primitives.proofs.lengths.length32.Statement.{statement}
 use Rattle.primitives.proofs.lengths.length32.Tie as tie

@@ -1,5 +1,5 @@
 -- Inside the slice its end from there on, and behind it nothing.
-use Rattle.primitives.proofs.Rest.{rest-in, rest-out}
+use Rattle.primitives.proofs.Behind.{rest-in, rest-out}
 use borrow.Author.Needs.{needs}
 use Rattle.primitives.proofs.parts.rest.Statement.{statement}
 use Rattle.primitives.proofs.parts.rest.Tie as tie

@@ -1,7 +1,7 @@
 -- The cell of the number shows the number.
 use mathlib.Core.Path.{ap, sym}
 use Rattle.primitives.specs.Answers.{ofCarried}
-use Rattle.primitives.proofs.Zigzag.{carried-took}
+use Rattle.primitives.proofs.Varint.{carried-took}
 use borrow.Author.Needs.{needs}
 use Rattle.primitives_calls.proofs.read.carried.Statement.{statement}
 use Rattle.primitives_calls.proofs.read.carried.Tie as tie

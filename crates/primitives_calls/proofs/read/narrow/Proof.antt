@@ -1,7 +1,7 @@
 -- Each way out is a case of the definition.
 use mathlib.Core.Path.{ap, sym}
 use Rattle.primitives.specs.Answers.{ofNarrow}
-use Rattle.primitives.proofs.Zigzag.{narrow-high, narrow-low}
+use Rattle.primitives.proofs.Varint.{narrow-high, narrow-low}
 use borrow.Author.Needs.{needs}
 use Rattle.primitives_calls.proofs.read.narrow.Statement.{statement}
 use Rattle.primitives_calls.proofs.read.narrow.Tie as tie

@@ -1,4 +1,4 @@
-use Rattle.primitives.proofs.Zigzag.{even, odd}
+use Rattle.primitives.proofs.Varint.{even, odd}
 use borrow.Author.Needs.{needs}
 use Rattle.primitives_calls.proofs.read.unzigzag.Statement.{statement}
 use Rattle.primitives_calls.proofs.read.unzigzag.Tie as tie

@@ -2,7 +2,7 @@
 use mathlib.Core.Path.{_∙_}
 use Rattle.layout.specs.Primitives.{varint}
 use Rattle.primitives.proofs.Alone.{alone-sized}
-use Rattle.primitives.proofs.Zigzag.{varint-is}
+use Rattle.primitives.proofs.Varint.{varint-is}
 use borrow.Author.Needs.{needs}
 use Rattle.primitives_calls.proofs.read.varint.Statement.{statement}
 use Rattle.primitives_calls.proofs.read.varint.Tie as tie

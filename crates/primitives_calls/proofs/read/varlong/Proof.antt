@@ -2,7 +2,7 @@
 use mathlib.Core.Path.{_∙_}
 use Rattle.layout.specs.Primitives.{varlong}
 use Rattle.primitives.proofs.Alone.{alone-sized}
-use Rattle.primitives.proofs.Zigzag.{varlong-is}
+use Rattle.primitives.proofs.Varint.{varlong-is}
 use borrow.Author.Needs.{needs}
 use Rattle.primitives_calls.proofs.read.varlong.Statement.{statement}
 use Rattle.primitives_calls.proofs.read.varlong.Tie as tie

@@ -3,7 +3,7 @@ use lib.ListN.{length}
 use Rattle.primitives_put.specs.Put.{sizeOf}
 use Rattle.primitives_put.proofs.Answered.{answered}
 use Rattle.primitives_calls.proofs.Judged.{behind-length, too-long}
-use Rattle.primitives_put.proofs.Lengths.{length-small}
+use Rattle.primitives_put.proofs.Parts.{length-small}
 use borrow.Author.Needs.{needs}
 use Rattle.primitives_calls.proofs.write.carried.Statement.{statement}
 use Rattle.primitives_calls.proofs.write.carried.Tie as tie

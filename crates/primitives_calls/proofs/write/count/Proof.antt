@@ -2,7 +2,7 @@ use native.Mathlib.Omega.{arith}
 use Rattle.primitives_put.specs.Put.{sizeOf}
 use Rattle.primitives_put.proofs.Answered.{answered}
 use Rattle.primitives_calls.proofs.Judged.{count-good, count-null, count-wide}
-use Rattle.primitives_put.proofs.Lengths.{length-small}
+use Rattle.primitives_put.proofs.Parts.{length-small}
 use borrow.Author.Needs.{needs}
 use Rattle.primitives_calls.proofs.write.count.Statement.{statement}
 use Rattle.primitives_calls.proofs.write.count.Tie as tie

@@ -2,7 +2,7 @@
 use mathlib.Core.Path.{_∙_, ap, sym}
 use Rattle.primitives.specs.Answers.{ofNumber}
 use Rattle.primitives.specs.Parts.{ofPart}
-use Rattle.tagged_fields.proofs.Rows.{tag-no, tag-no-data, tag-took}
+use Rattle.tagged_fields.proofs.Replies.{tag-no, tag-no-data, tag-took}
 use borrow.Author.Needs.{needs}
 use Rattle.tagged_fields.proofs.reading.tag_at.Statement.{statement}
 use Rattle.tagged_fields.proofs.reading.tag_at.Tie as tie

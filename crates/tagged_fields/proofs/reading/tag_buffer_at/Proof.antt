@@ -1,7 +1,7 @@
 -- The count is an array's, and the walk over its items is the loop of `tags_at`, with the row and the table in their places.
 use mathlib.Core.Path.{_∙_, ap, sym}
 use Rattle.primitives.specs.Answers.{ofNumber}
-use Rattle.tagged_fields.proofs.Count.{buffer-no, buffer-no-count, buffer-took}
+use Rattle.tagged_fields.proofs.Replies.{buffer-no, buffer-no-count, buffer-took}
 use borrow.Author.Needs.{needs}
 use Rattle.tagged_fields.proofs.reading.tag_buffer_at.Statement.{statement}
 use Rattle.tagged_fields.proofs.reading.tag_buffer_at.Tie as tie

@@ -1,7 +1,7 @@
 -- A tag is a row with no arrays, kept by one store.
 use mathlib.Core.Path.{ap}
 use Rattle.tagged_fields.specs.Read.{ofTag}
-use Rattle.tagged_fields.proofs.Rows.{in-no, in-took}
+use Rattle.tagged_fields.proofs.Replies.{in-no, in-took}
 use borrow.Author.Needs.{needs}
 use Rattle.tagged_fields.proofs.reading.tag_in.Statement.{statement}
 use Rattle.tagged_fields.proofs.reading.tag_in.Tie as tie

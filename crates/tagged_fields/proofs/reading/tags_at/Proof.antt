@@ -4,7 +4,7 @@ use lib.ListN.{length}
 use borrow.Author.Needs.{needs}
 use Rattle.body_reading.specs.Tagged.{tagShape}
 use Rattle.body_reading.specs.Walk.{walk}
-use Rattle.body_reading.proofs.Loops.{Going, going-done, going-start, turn-next, turn-no}
+use Rattle.body_reading.proofs.Chains.{Going, going-done, going-start, turn-next, turn-no}
 use Rattle.tagged_fields.specs.Read.{inTable, inTableIs}
 use Rattle.tagged_fields.proofs.reading.tags_at.Statement.{statement}
 use Rattle.tagged_fields.proofs.reading.tags_at.Tie as tie

@@ -1,28 +1,36 @@
--- 13 of a request, the faults of its own row, and each way out of the judgement of a whole request.
+-- What is refused of a request: 13 of its tables, 11 of the numbers of its own row, and 11 and 7 of a topic, the first row of `topics` with the first rows of `partitions`; and each way out of the judgement of a whole request.
 use mathlib.Core.Bool.{Bool, _&&_, and-true, cond, false, true}
 use mathlib.Core.List.{List, [], _∷_}
 use mathlib.Core.Logic.{_≢_}
 use mathlib.Core.Path.{_∙_, _≡_, ap, ap₂, refl, sym}
-use Prim.Native.Nat.{_/_, _<_, _^_, _≤_, ℕ}
+use Prim.Native.Nat.{_*_, _+_, _/_, _<_, _^_, _≤_, ℕ}
 use native.Mathlib.Nat.{add-zero}
 use native.Mathlib.Omega.{arith}
-use lib.Dec.{eqb, leb, ltb}
-use lib.ListN.{getD, length}
+use lib.Dec.{eqb, leb, lit<, ltb}
+use lib.ListN.{getD, length, take}
 use lib.Seq.{getD-drop}
-use Rattle.layout.specs.Primitives.{empty, fixed, holds, w32}
+use Rattle.layout.specs.Primitives.{empty, fixed, holds, w32, w64}
 use Rattle.layout.specs.Rows.{stands}
-use Rattle.layout.specs.Tables.{all, arrays, asked, basicOf, chosen, count, good, goodCells, goodCount, goodRow, goodSpan, kindIn, kindOf, pop, rowWidth, rowsOf, sum, valueOf, width}
+use Rattle.layout.specs.Tables.{all, arrays, asked, basicOf, chosen, count, good, goodCells, goodCount, goodRow, goodSpan, kindIn, kindOf, pop, rowWidth, rowsOf, slice, sum, valueOf, width}
 use Rattle.layout.specs.Write.{basicFault, fault, or, tooLong, unless}
-use Rattle.layout.proofs.Proper.{both}
-use Rattle.layout.proofs.Tests.{lt-false, lt-true, of-eq}
-use Rattle.body_writing.specs.Writes.{faultAt, itemsFault, refusalOf, takes}
-use Rattle.body_writing.proofs.Faults.{or-both}
-use Rattle.body_writing.proofs.Taking.{sum-cells}
-use Rattle.body_writing.proofs.Writes.{any-fault, refusal-bad, refusal-good, refusal-none}
-use Rattle.body_writing.specs.Asked.{allRanged, ranged, tells, told, toldGood}
-use Rattle.body_writing.proofs.Lent.{all-true, good-two, rows-agree, rows-differ}
+use Rattle.body_writing.specs.Writes.{faultAt, itemsFault, refusalOf, rowFault, rowsFault, takes}
+use Rattle.body_writing.specs.Asked.{allRanged, ranged, stringFault, tells, told, toldGood}
+use Rattle.primitives_put.specs.Answers.{within}
 use Rattle.fetch_request.specs.declared.Own.{Own}
 use Rattle.fetch_request.specs.Shapes.{ownRow, partitionShape, requestShape, topicShape, topicsShape}
+use Rattle.layout.proofs.Proper.{both}
+use Rattle.layout.proofs.Tests.{le-true, lt-false, lt-true, of-eq, of-ge}
+use Rattle.body_writing.proofs.Faults.{none-is, or-both, rows-clean, rows-only}
+use Rattle.body_writing.proofs.Taking.{sum-cells}
+use Rattle.body_writing.proofs.Writes.{any-fault, refusal-bad, refusal-good, refusal-none}
+use Rattle.body_writing.proofs.Lent.{all-true, good-two, rows-agree, rows-differ, string-fault}
+use Rattle.layout.proofs.Chunks.{row-cell}
+use Rattle.body_writing.proofs.Judged.{Judged, always, judged-end, odd-last}
+use Rattle.body_writing.proofs.Counts.{Cells}
+use Rattle.body_writing.proofs.Nested.{row-fault}
+use Rattle.body_writing.proofs.Turns.{or-first, or-second}
+use Rattle.body_writing.proofs.Even.{numbers-fault, stringShape}
+use Rattle.fetch_request.proofs.Walk.{named, three}
 
 -- ---- 13: there is no null here
 
@@ -37,15 +45,9 @@ module _ (size c : ℕ) (topics partitions : List ℕ) where
   pub is-good : (x y z k m k′ m′ : ℕ) → good size 2 (requestShape false false) ((x ∷ y ∷ z ∷ k ∷ m ∷ k′ ∷ m′ ∷ c ∷ []) ∷ topics ∷ partitions ∷ []) ≡ asks
   unfolding kindOf kindIn arrays rowWidth width goodRow goodCells goodSpan asked ranged stands told toldGood
   is-good x y z k m k′ m′ =
-      good-two size (requestShape false false) topicShape partitionShape 3 3 0 2 (count c) false (goodCount false c) true (x ∷ y ∷ z ∷ k ∷ m ∷ k′ ∷ m′ ∷ c ∷ []) topics partitions refl refl refl refl (own (eqb k 0) (eqb k′ 0)) (add-zero (count c)) refl
+      good-two size (requestShape false false) topicShape partitionShape 3 3 0 2 (count c) false (goodCount false c) true (x ∷ y ∷ z ∷ k ∷ m ∷ k′ ∷ m′ ∷ c ∷ []) topics partitions refl refl refl refl (rw (always (eqb k 0), always (eqb k′ 0)) (and-true (goodCount false c))) (add-zero (count c)) refl
       (λ r. ap (λ (b : Bool). ranged 0 size r && b) (and-true _ ∙ ap (goodCount false) (getD-drop 2 r 0 0))) (λ r. add-zero _ ∙ ap count (getD-drop 2 r 0 0)) (λ r. refl) (all-true (rowsOf 3 partitions)) (λ r. refl) (λ r. refl)
       ∙ ap (λ (b : Bool). goodCount false c && (eqb (count c) (length topics / 3) && (telling && b))) (and-true (allRanged 3 0 size topics))
-    where
-      own : (a b : Bool) → (cond a true true && (cond b true true && (goodCount false c && true))) ≡ goodCount false c
-      own true true = and-true (goodCount false c)
-      own true false = and-true (goodCount false c)
-      own false true = and-true (goodCount false c)
-      own false false = and-true (goodCount false c)
 
   abbrev judged : Bool
   judged = good size 2 (requestShape false false) ((0 ∷ 0 ∷ 0 ∷ 0 ∷ 0 ∷ 0 ∷ 0 ∷ c ∷ []) ∷ topics ∷ partitions ∷ [])
@@ -152,3 +154,106 @@ module _ (lent : List ℕ) (c : ℕ) (topics partitions : List ℕ) (own : Own) 
         pub fault-topics : y ≡ true → (r : ℕ) → r ≡ itemsFault lent topicShape (length topics / 3) 1 ([] ∷ topics ∷ partitions ∷ []) → r ≡ refusal
         unfolding unless or
         fault-topics m r o = judge y l r (o ∙ sym (rw (k, m)))
+
+pub is-held : (n : ℕ) → within 2147483648 n ≡ holds w32 n
+unfolding within holds
+is-held n = refl
+
+-- ---- a partition's numbers
+
+-- every cell holds a number of 64 bits
+wide-holds : (n : ℕ) → n < 2 ^ 64 → holds w64 n ≡ true
+unfolding holds
+wide-holds n h = go (ltb n (2 ^ 63)) refl
+  where
+    go : (b : Bool) → ltb n (2 ^ 63) ≡ b → holds w64 n ≡ true
+    go true e = rw e
+    go false e = rw (e, le-true (2 ^ 63) n (of-ge n (2 ^ 63) e), lt-true n (2 ^ 64) h)
+
+abbrev pub clean : List ℕ → Bool
+clean r = eqb (rowFault [] partitionShape r) 0
+
+module _ (partitions : List ℕ) (cells : Cells partitions) where
+  -- as the table has them
+  module _ (i : ℕ) (h : i < length partitions / 3) where
+    abbrev row : List ℕ
+    row = getD (rowsOf 3 partitions) i []
+
+    pub partition-told : (b : Bool) → b ≡ (holds w32 (getD partitions (i * 3) 0) && holds w32 (getD partitions (i * 3 + 2) 0)) → b ≡ clean row
+    partition-told b e =
+        e
+        ∙ sym (λ t. holds w32 ((row-cell 3 partitions i h 0 (lit< tt) ∙ ap (λ (k : ℕ). getD partitions k 0) (add-zero (i * 3))) t) && holds w32 (row-cell 3 partitions i h 2 (lit< tt) t))
+        ∙ sym (ap (λ (n : ℕ). eqb n 0) (numbers-fault [] w32 w64 w32 row) ∙ none-is _ 10 ∙ rw (wide-holds (getD row 1 0) (omega (arith, row-cell 3 partitions i h 1 (lit< tt), cells (i * 3 + 1)))) refl)
+
+    -- what is small fits
+    small-held : (n : ℕ) → ltb n 2147483648 ≡ true → holds w32 n ≡ true
+    unfolding holds
+    small-held n e = rw e
+
+    pub small-told : (b : Bool) → b ≡ (ltb (getD partitions (i * 3) 0) 2147483648 && ltb (getD partitions (i * 3 + 2) 0) 2147483648) → b ≡ (b && clean row)
+    small-told false e = refl
+    small-told true e =
+        let x : (ltb (getD partitions (i * 3) 0) 2147483648 ≡ true) × (ltb (getD partitions (i * 3 + 2) 0) 2147483648 ≡ true) = both _ _ (sym e) in
+        partition-told true (sym (ap₂ (λ (a b : Bool). a && b) (small-held _ (x .0)) (small-held _ (x .1))))
+
+-- ---- all rows
+
+-- a test that says no more than that x holds
+pub sure : {a x : Bool} → a ≡ (a && x) → a ≡ true → a ≡ x
+sure {a} {x} e h = e ∙ ap (λ (t : Bool). t && x) h
+
+module _ {partitions : List ℕ} (t : ℕ) (g : Judged clean 3 partitions (t * 2)) where
+  pub small-last : (a : Bool) → a ≡ (a && clean (getD (rowsOf 3 partitions) (t * 2) [])) → length partitions / 3 / 2 ≤ t → t * 2 < length partitions / 3 → a ≡ (a && eqb (rowsFault [] partitionShape 3 partitions) 0)
+  small-last false e l h = refl
+  small-last true e l h = odd-last g e l h ∙ rows-clean [] partitionShape 3 partitions
+
+  pub small-end : length partitions / 3 ≤ t * 2 → true ≡ eqb (rowsFault [] partitionShape 3 partitions) 0
+  small-end h = judged-end clean 3 partitions (t * 2) g h ∙ rows-clean [] partitionShape 3 partitions
+
+-- two tests whether a number is small, in turn
+module _ (m n : ℕ) where
+  pub small-first : 2147483648 ≤ m → false ≡ (ltb m 2147483648 && ltb n 2147483648)
+  small-first h = sym (rw (lt-false m 2147483648 h))
+
+  pub small-second : m < 2147483648 → ltb n 2147483648 ≡ (ltb m 2147483648 && ltb n 2147483648)
+  small-second h = sym (rw (lt-true m 2147483648 h))
+
+-- no lent byte is looked at
+lent-none : (lent table : List ℕ) → rowsFault lent partitionShape 3 table ≡ rowsFault [] partitionShape 3 table
+unfolding rowsFault rowFault faultAt fault basicFault valueOf pop width basicOf
+lent-none lent table = refl
+
+-- the cells of partitions that it takes
+pub cells-are : (topics : List ℕ) {k : ℕ} → k ≡ count (getD topics 2 0) → k * 3 ≡ takes 3 2 topics
+unfolding takes
+cells-are topics e = ap (λ (k : ℕ). k * 3) e
+
+module _ (lent topics partitions : List ℕ) (enough : takes 3 2 topics ≤ length partitions) where
+  abbrev topicFault : ℕ
+  topicFault = faultAt lent topicShape 1 ([] ∷ topics ∷ partitions ∷ [])
+
+  abbrev taken : ℕ → ℕ
+  taken k = rowsFault [] partitionShape 3 (take k partitions)
+
+  in-parts : topicFault ≡ or (stringFault (slice lent (getD topics 0 0, getD topics 1 0))) (taken (takes 3 2 topics))
+  unfolding tooLong or
+  in-parts =
+      row-fault lent (fixed w32 empty) partitionShape tt 3 three stringShape tt 2 named topics partitions (lit< tt) enough
+      ∙ ap₂ or (string-fault lent topics) (lent-none lent (take (takes 3 2 topics) partitions))
+
+  -- as code judges it
+  module _ (x : List ℕ) (d : x ≡ slice lent (getD topics 0 0, getD topics 1 0)) (e : ℕ) (f : e ≡ stringFault x) where
+    text-told : e ≡ stringFault (slice lent (getD topics 0 0, getD topics 1 0))
+    text-told = f ∙ ap stringFault d
+
+    pub topic-name : e ≢ 0 → e ≡ topicFault
+    topic-name h = or-first (stringFault (slice lent (getD topics 0 0, getD topics 1 0))) _ e text-told h ∙ sym in-parts
+
+    module _ (h : e ≡ 0) (k : ℕ) (q : k ≡ takes 3 2 topics) (b : Bool) (i : b ≡ eqb (taken k) 0) where
+      pub topic-partitions : unless b 11 ≡ topicFault
+      topic-partitions =
+          ap (λ (t : Bool). unless t 11) i
+          ∙ sym (rows-only [] partitionShape 3 (take k partitions) _ 10 (numbers-fault [] w32 w64 w32))
+          ∙ ap taken q
+          ∙ or-second (stringFault (slice lent (getD topics 0 0, getD topics 1 0))) _ e text-told h
+          ∙ sym in-parts
