@@ -17,8 +17,7 @@ use Rattle.body_reading.specs.Tagged.{tagShape, tagsShape}
 use Rattle.body_writing.specs.Writes.{bytesAt, countedBytes, faultAt, itemsBytes, itemsFault, rowBytes, rowFault, takes}
 use Rattle.primitives_put.proofs.Capped.{capped, capped-as, capped-behind}
 use Rattle.body_writing.proofs.Faults.{or-none}
-use Rattle.body_writing.proofs.Nested.{Nest, one, row-bytes}
-use Rattle.body_writing.proofs.Taking.{Taking, sum-cells, taking-end, taking-enough, taking-more, taking-start}
+use Rattle.body_writing.proofs.Nested.{Nest, Taking, one, row-bytes, sum-cells, taking-end, taking-enough, taking-more, taking-start}
 use Rattle.body_writing.proofs.Writes.{flat-bytes, flat-fault, flat-value, joined-fault}
 use Rattle.primitives_put.specs.Put.{Put}
 use Rattle.primitives_put.proofs.Stored.{put-step}

@@ -21,7 +21,7 @@ use Rattle.body_reading.specs.Tagged.{tagShape, tagsShape}
 use Rattle.body_writing.specs.Writes.{bytesAt, countedBytes, faultAt, itemsBytes, refusalOf, rowBytes, rowFault, rowsFault}
 use Rattle.primitives_put.proofs.Capped.{capped, capped-as, capped-behind, step-nothing}
 use Rattle.body_writing.proofs.Faults.{or-none, or-unless, rows-only}
-use Rattle.body_writing.proofs.Taking.{own-apart, sum-cells, taken-state}
+use Rattle.body_writing.proofs.Nested.{own-apart, sum-cells, taken-state}
 use Rattle.body_writing.proofs.Writes.{any-bytes, any-fault, joined-bytes, joined-fault}
 use Rattle.primitives.specs.Answers.{versionOf}
 use Rattle.primitives_put.specs.declared.Form.{Form}

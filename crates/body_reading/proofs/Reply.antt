@@ -22,6 +22,7 @@ use Rattle.layout.proofs.Calls.{Seen, need-is, read-answer, read-refused, seen-
 use Rattle.layout.proofs.Contents.{joined-length, rows-wide, rowsIn}
 use Rattle.layout.proofs.Proper.{owed, proper, width-same, widthAt}
 use Rattle.layout.proofs.Tests.{le-false, le-true, lt-false, lt-true, of-le}
+use Rattle.primitives.proofs.Versions.{up-to}
 use Rattle.body_reading.proofs.Bound.{lean, slim, slim-at}
 use Rattle.body_reading.proofs.Close.{Ended, ended, ended-no, filled, marks, none-yet, runs-so, slices, slices-tabs, tabs}
 
@@ -130,6 +131,10 @@ module _ (m : Message) (w : Bool) (v : ℕ) (s : List ℕ) (olds : Tables) (c : 
   answers-long e h l = sym (read-refused m (pos v) s olds w c (too-long w m v s h l ∙ ap bad (sym e)))
 
 -- ---- versions
+
+-- what holds of 0 to 4, one by one
+pub up-to-four : (P : ℕ → Type 0) → P 0 → P 1 → P 2 → P 3 → P 4 → (v : ℕ) → v ≤ 4 → P v
+up-to-four P a b c d e = up-to 4 P (a, (b, (c, (d, e))))
 
 -- two of one layout read alike
 pub one-layout : (m : Message) (a b : ℕ) → a ≤ m .last → b ≤ m .last → shape m a ≡ shape m b → (olds : Tables) (s : List ℕ) → prefixRead m (pos a) olds s ≡ prefixRead m (pos b) olds s

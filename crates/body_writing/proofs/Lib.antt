@@ -5,12 +5,11 @@ pub mod Lent
 -- 11 and 7: all rows of a table tested, and faults that all have the same number
 pub mod Judged
 pub mod Faults
--- rows one by one: what they mean, the first fault, and bytes one after the other; rows that take rows of another table
+-- rows one by one: what they mean, the first fault, and bytes one after the other
 pub mod Turns
-pub mod Taking
 -- rows as they are written: a text, an array after its number, and null; rows that all have the same number of bytes
 pub mod Even
--- the bytes and the first fault of what tables mean: rows with no arrays, and rows that end with an array of rows of another table
+-- the bytes and the first fault of what tables mean: rows with no arrays, and rows that take rows of another table, as those that end with an array of them do
 pub mod Writes
 pub mod Nested
 -- from what a body's writer promises to the call's answer

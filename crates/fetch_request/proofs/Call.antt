@@ -14,7 +14,7 @@ use Rattle.layout.specs.Rows.{at, end, stands, standing}
 use Rattle.layout.specs.Tables.{Tables, basicOf, chosen, count, good, pop, valueOf, width}
 use Rattle.layout.specs.Write.{or, unless, write, writeBasic}
 use Rattle.body_writing.specs.Writes.{bytesAt, itemsBytes, itemsFault, refusalOf, rowBytes}
-use Rattle.primitives.proofs.Versions.{up-to}
+use Rattle.body_reading.proofs.Reply.{up-to-four}
 use Rattle.body_writing.proofs.Writes.{any-bytes}
 use Rattle.primitives.specs.Answers.{versionOf}
 use Rattle.body_writing.proofs.Called.{called}
@@ -26,7 +26,7 @@ use Rattle.fetch_request.proofs.Walk.{lead-bytes, limits-bytes, topics-
 
 is-shape : (v : ℕ) → v ≤ 4 → shape request v ≡ requestShape (leb 3 v) (leb 4 v)
 unfolding shape at stands standing requestRows askTopicRows askRows
-is-shape = up-to 4 (λ v. shape request v ≡ requestShape (leb 3 v) (leb 4 v)) (refl, (refl, (refl, (refl, refl))))
+is-shape = up-to-four (λ v. shape request v ≡ requestShape (leb 3 v) (leb 4 v)) refl refl refl refl refl
 
 -- numbers unset are written as others that are given
 module _ (b i : Bool) (k m k′ m′ largest level : ℕ) (e : getD (chosen (2147483647 ∷ []) (k ∷ m ∷ [])) 0 0 ≡ largest) (f : getD (chosen (0 ∷ []) (k′ ∷ m′ ∷ [])) 0 0 ≡ level) where

@@ -21,13 +21,12 @@ use Rattle.fetch_request.specs.Shapes.{ownRow, partitionShape, requestSh
 use Rattle.layout.proofs.Proper.{both}
 use Rattle.layout.proofs.Tests.{le-true, lt-false, lt-true, of-eq, of-ge}
 use Rattle.body_writing.proofs.Faults.{none-is, or-both, rows-clean, rows-only}
-use Rattle.body_writing.proofs.Taking.{sum-cells}
+use Rattle.body_writing.proofs.Nested.{row-fault, sum-cells}
 use Rattle.body_writing.proofs.Writes.{any-fault, refusal-bad, refusal-good, refusal-none}
 use Rattle.body_writing.proofs.Lent.{all-true, good-two, rows-agree, rows-differ, string-fault}
 use Rattle.layout.proofs.Chunks.{row-cell}
 use Rattle.body_writing.proofs.Judged.{Judged, always, judged-end, odd-last}
 use Rattle.body_writing.proofs.Counts.{Cells}
-use Rattle.body_writing.proofs.Nested.{row-fault}
 use Rattle.body_writing.proofs.Turns.{or-first, or-second}
 use Rattle.body_writing.proofs.Even.{numbers-fault, stringShape}
 use Rattle.fetch_request.proofs.Walk.{named, three}

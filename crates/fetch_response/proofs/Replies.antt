@@ -14,14 +14,13 @@ use Rattle.layout.proofs.Local.{not-ok}
 use Rattle.layout.proofs.Proper.{fetch-response}
 use Rattle.primitives.specs.Answers.{noRoom, ofRefusal, versionOf}
 use Rattle.primitives.specs.declared.Refusal as Code
-use Rattle.primitives.proofs.Versions.{up-to}
 use Rattle.body_reading.specs.Meter.{lengths, metered, short}
 use Rattle.body_reading.specs.Store.{State, own, tab}
 use Rattle.body_reading.specs.Walk.{on, walk}
 use Rattle.body_reading.proofs.Bound.{lean, slim, taken}
 use Rattle.body_reading.proofs.Close.{slices, tabs}
 use Rattle.body_reading.proofs.Metered.{is-known, measured-no, measured-took, metered-fits, metered-no, metered-short}
-use Rattle.body_reading.proofs.Reply.{short-here, short-next, short-none}
+use Rattle.body_reading.proofs.Reply.{short-here, short-next, short-none, up-to-four}
 use Rattle.fetch_response.specs.TopicShapes.{abortedShape, partitionShape, topicShape}
 use Rattle.fetch_response.specs.declared.marks.Marks.{Marks}
 use Rattle.fetch_response.specs.Answers.{ofMeasure, ofResponse, ofRoom, sizes}
@@ -44,7 +43,7 @@ row-widths = refl
 -- the layout of a version, by what sets it apart
 pub shape-is : (v : ℕ) → v ≤ 4 → shape Fetch.response v ≡ bodyShape v
 unfolding shape at stands standing Fetch.abortedRows Fetch.partitionRows Fetch.topicRows Fetch.responseRows bodyShape topicShape partitionShape abortedShape
-shape-is = up-to 4 (λ v. shape Fetch.response v ≡ bodyShape v) (refl, (refl, (refl, (refl, refl))))
+shape-is = up-to-four (λ v. shape Fetch.response v ≡ bodyShape v) refl refl refl refl refl
 
 -- ---- room, in table order
 

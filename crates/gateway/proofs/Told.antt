@@ -10,7 +10,7 @@ use mir.Val.{SFits, ofZ, toZ}
 use Rattle.layout.specs.Tables.{Tables}
 use Rattle.layout.specs.Answers.{Answer, Message, prefixRead, readAnswer, wholeRead, writeAnswer}
 use Rattle.primitives.specs.Answers.{isSet}
-use Rattle.primitives.proofs.Set.{set, unset}
+use Rattle.primitives.proofs.Versions.{set, unset}
 use Rattle.gateway.specs.Replies.{told}
 
 module _ {N : Type 0} (f : Answer → N) (r : N) (a : Answer) (e : r ≡ f a) where

@@ -1,39 +1,139 @@
--- In a message that is accepted, the rows that the search reads are those of the brokers' table: so what is found is what the lookup tells, and the whole answer.
-use mathlib.Core.Bool.{Bool, false, true}
+-- The search for a host: each way out, one reader behind the other and broker by broker. In a message that is accepted, the rows that it reads are those of the brokers' table: so what is found is what the lookup tells, and the whole answer.
+use mathlib.Core.Bool.{Bool, cond, false, true}
 use mathlib.Core.List.{List, [], _++_, _∷_, append-nil, map}
+use mathlib.Core.Logic.{_≢_}
+use mathlib.Core.Option.{some}
 use mathlib.Core.Path.{_∙_, _≡_, ap, refl, subst, sym}
-use Prim.Native.Nat.{_-_, _≤_, suc, zero, ℕ}
-use native.Mathlib.Nat.{zero-add}
+use Prim.Native.Nat.{_-_, _<_, _≤_, suc, zero, ℕ}
 use native.Mathlib.Omega.{arith}
+use native.Mathlib.Nat.{zero-add}
+use lib.ListN.{getD, length}
 use lib.Dec.{leb}
 use lib.IntN.{pos, ℤ}
-use lib.ListN.{getD, length}
+use borrow.Author.Tests.{eq-eqb, ne-eqb}
 use Rattle.layout.specs.Reading.{Reader, Refusal, Res, bad, give, many, more, ok, pair, then}
+use Rattle.layout.specs.Tables.{Span, Tables, absentCells, arrays, cells, firstRow, kindIn, kindOf, rowWidth, rowsOf, width}
+use Rattle.layout.specs.Lookup.{Host, found, hostOf, lookup, refused, unknown}
+use Rattle.body_reading.specs.Walk.{itemCount, on, rowFrom}
+use Rattle.body_reading.specs.Fronts.{frontOf}
+use Rattle.metadata_response.specs.Brokers.{brokerShape}
 use Rattle.layout.specs.Primitives.{admits, checked, empty, fixed, lengthOf, refusal, sized, unsigned, w32}
 use Rattle.layout.specs.Rows.{Basic, Shape, Value, absent, array, at, done, end, field, int32, items, maybe, nullableString, number, optional, row, rows, standing, stands}
 use Rattle.layout.specs.Read.{byPlace, counted, read, readBasic}
-use Rattle.layout.specs.Tables.{Span, Tables, absentCells, arrays, cells, firstRow, kindIn, kindOf, rowWidth, rowsOf, width}
 use Rattle.layout.specs.Answers.{seen, shape}
-use Rattle.layout.specs.Lookup.{Host, hostOf, lookup, refused}
 use Rattle.layout.specs.Messages.Metadata.{brokerRows, nodeRows, partitionRows, response, responseRows, topicRows}
-use Rattle.body_reading.specs.Walk.{itemCount, on, rowFrom}
 use Rattle.body_reading.specs.Moved.{arrayItems}
-use Rattle.body_reading.specs.Fronts.{frontOf}
-use Rattle.metadata_response.specs.Brokers.{brokerShape}
 use Rattle.primitives.specs.Answers.{versionOf}
 use Rattle.body_reading.specs.Meter.{metered}
 use Rattle.metadata_lookup.specs.Hosts.{Seeks, brokersOf}
+use Rattle.layout.proofs.Local.{not-ok}
+use Rattle.body_reading.proofs.Chains.{both, give-took, same-end, same-value, then-no, then-took}
 use Rattle.layout.proofs.Calls.{Seen, seen-inv, tables-are}
 use Rattle.layout.proofs.Contents.{Free, Holds, flatten, free-rows, joined, rowCells, rows-back, rows-wide, rowsIn}
 use Rattle.layout.proofs.Every.{All}
-use Rattle.layout.proofs.Local.{not-ok}
 use Rattle.layout.proofs.Looked.{lookup-refuses, lookup-rows}
 use Rattle.layout.proofs.Proper.{metadata-response, owed, width-same, widthAt}
 use Rattle.body_reading.proofs.Front.{Flat}
 use Rattle.body_reading.proofs.RowCells.{cells-absent, cells-end, cells-took, read-row}
-use Rattle.body_reading.proofs.Chains.{both, give-took, same-end, same-value, then-took}
 use Rattle.body_reading.proofs.Fronts.{count-took}
 use Rattle.metadata_response.proofs.BrokerRows.{broker-flat}
+
+-- ---- a search behind something else
+
+module _ {A : Type 0} (r : Reader A) (f : A → Reader (List (List ℕ))) (s : List ℕ) (p node : ℕ) (h : Host) where
+  pub seeks-no : (c : Refusal) → bad c ≡ on r s p → Seeks (then r f) s p node h
+  seeks-no c e = record { law = λ rs q d. not-ok (then-no r f s p e ∙ sym d) }
+
+  pub seeks-behind : (x : A) (u : ℕ) → ok x u ≡ on r s p → Seeks (f x) s u node h → Seeks (then r f) s p node h
+  seeks-behind x u e w = record { law = λ rs q d. w .law rs q (d ∙ sym (then-took r f s p e refl)) }
+
+-- ---- rows, one after the other
+
+module _ (r : Reader (List ℕ)) (s : List ℕ) (node : ℕ) where
+  pub none-left : (n p : ℕ) → n ≤ 0 → Seeks (many n r) s p node unknown
+  unfolding many firstRow
+  none-left zero p l = record { law = λ rs q d. let e : rs ≡ [] = same-value (d ∙ sym (give-took [] s p)) in rw e }
+  none-left (suc n) p l = absurd (omega arith)
+
+  pub row-no : (n p : ℕ) → 0 < n → (c : Refusal) → bad c ≡ on r s p → (h : Host) → Seeks (many n r) s p node h
+  unfolding many
+  row-no zero p l c e h = absurd (omega arith)
+  row-no (suc n) p l c e h = seeks-no r _ s p node h c e
+
+  -- the rows are this one and those behind it
+  record Rest (n : ℕ) (cs : List ℕ) (u : ℕ) (rs : List (List ℕ)) (q : ℕ) : Type 0 where
+    behind : List (List ℕ)
+    is : rs ≡ cs ∷ behind
+    is-read : ok behind q ≡ on (many n r) s u
+
+  rest : (n p : ℕ) (cs : List ℕ) (u : ℕ) → ok cs u ≡ on r s p → (rs : List (List ℕ)) (q : ℕ) → ok rs q ≡ on (many (suc n) r) s p → Rest n cs u rs q
+  unfolding many
+  rest n p cs u e rs q d =
+      let a = both (many n r) (λ xs. give (cs ∷ xs)) s u rs q (d ∙ sym (then-took r (λ x. then (many n r) (λ xs. give (x ∷ xs))) s p e refl)) in
+      let g = a .second ∙ sym (give-took (cs ∷ a .x) s (a .u)) in
+      record { behind = a .x; is = same-value g; is-read = ap (λ (j : ℕ). ok (a .x) j) (same-end g) ∙ a .first }
+
+  module _ (n p : ℕ) (l : 0 < n) (cs : List ℕ) (u : ℕ) (e : ok cs u ≡ on r s p) where
+    pub row-here : getD cs 0 0 ≡ node → Seeks (many n r) s p node (found (getD cs 1 0) (getD cs 2 0))
+    unfolding firstRow
+    row-here g = record { law = λ rs q d. go n l rs q d }
+      where
+        told : (rs : List (List ℕ)) (m q : ℕ) → Rest m cs u rs q → found (getD cs 1 0) (getD cs 2 0) ≡ hostOf (firstRow node rs)
+        told rs m q a = sym (ap (λ (t : List (List ℕ)). hostOf (firstRow node t)) (a .is) ∙ ap (λ (b : Bool). hostOf (cond b (some cs) (firstRow node (a .behind)))) (eq-eqb (getD cs 0 0) node g))
+
+        go : (n : ℕ) → 0 < n → (rs : List (List ℕ)) (q : ℕ) → ok rs q ≡ on (many n r) s p → found (getD cs 1 0) (getD cs 2 0) ≡ hostOf (firstRow node rs)
+        go zero l rs q d = absurd (omega arith)
+        go (suc m) l rs q d = told rs m q (rest m p cs u e rs q d)
+
+    pub row-past : getD cs 0 0 ≢ node → (h : Host) → Seeks (many (n - 1) r) s u node h → Seeks (many n r) s p node h
+    unfolding firstRow
+    row-past g h w = record { law = λ rs q d. go n l w rs q d }
+      where
+        told : (rs : List (List ℕ)) (m q : ℕ) → Seeks (many m r) s u node h → Rest m cs u rs q → h ≡ hostOf (firstRow node rs)
+        told rs m q w a =
+            w .law (a .behind) q (a .is-read)
+            ∙ sym (ap (λ (t : List (List ℕ)). hostOf (firstRow node t)) (a .is) ∙ ap (λ (b : Bool). hostOf (cond b (some cs) (firstRow node (a .behind)))) (ne-eqb (getD cs 0 0) node g))
+
+        go : (n : ℕ) → 0 < n → Seeks (many (n - 1) r) s u node h → (rs : List (List ℕ)) (q : ℕ) → ok rs q ≡ on (many n r) s p → h ≡ hostOf (firstRow node rs)
+        go zero l w rs q d = absurd (omega arith)
+        go (suc m) l w rs q d =
+            let k : suc m - 1 ≡ m = omega arith in
+            told rs m q (subst (λ (j : ℕ). Seeks (many j r) s u node h) k w) (rest m p cs u e rs q d)
+
+  -- ---- the loop: what is found among those left is what is found among all
+
+  module _ (count at : ℕ) where
+    pub record Left (n p : ℕ) : Type 0 where
+      pub law : (h : Host) → Seeks (many n r) s p node h → Seeks (many count r) s at node h
+
+    pub left-all : Left count at
+    left-all = record { law = λ h w. w }
+
+    module _ (n p : ℕ) (w : Left n p) where
+      pub left-none : n ≤ 0 → Seeks (many count r) s at node unknown
+      left-none l = w .law unknown (none-left n p l)
+
+      module _ (l : 0 < n) where
+        pub left-no : (c : Refusal) → bad c ≡ on r s p → (h : Host) → Seeks (many count r) s at node h
+        left-no c e h = w .law h (row-no n p l c e h)
+
+        module _ (cs : List ℕ) (u : ℕ) (e : ok cs u ≡ on r s p) where
+          pub left-here : getD cs 0 0 ≡ node → Seeks (many count r) s at node (found (getD cs 1 0) (getD cs 2 0))
+          left-here g = w .law (found (getD cs 1 0) (getD cs 2 0)) (row-here n p l cs u e g)
+
+          pub left-past : getD cs 0 0 ≢ node → Left (n - 1) u
+          left-past g = record { law = λ h v. w .law h (row-past n p l cs u e g h v) }
+
+-- ---- behind the front of a body
+
+module _ (racked throttled : Bool) (s : List ℕ) (node : ℕ) (h : Host) where
+  pub front-no : (c : Refusal) → bad c ≡ on (frontOf throttled) s 0 → Seeks (brokersOf racked throttled) s 0 node h
+  unfolding brokersOf
+  front-no c e = seeks-no (frontOf throttled) _ s 0 node h c e
+
+  pub among : (cs : List ℕ) (n q : ℕ) → ok (cs, n) q ≡ on (frontOf throttled) s 0 → Seeks (many n (rowFrom [] (brokerShape racked))) s q node h → Seeks (brokersOf racked throttled) s 0 node h
+  unfolding brokersOf
+  among cs n q e w = seeks-behind (frontOf throttled) _ s 0 node h (cs, n) q e w
 
 -- ---- where values are read, their cells are
 

@@ -24,7 +24,7 @@ use Rattle.body_writing.specs.Writes.{bytesAt, countedBytes, faultAt, refusalOf
 use Rattle.primitives_put.proofs.Capped.{capped, capped-as, capped-behind, step-nothing}
 use Rattle.body_writing.proofs.Faults.{or-none}
 use Rattle.body_reading.proofs.Front.{Flat}
-use Rattle.primitives.proofs.Versions.{up-to}
+use Rattle.body_reading.proofs.Reply.{up-to-four}
 use Rattle.body_writing.proofs.Writes.{all-bytes, array-null, refusal-bad, refusal-good, refusal-none, then-bytes, then-fault}
 use Rattle.primitives.specs.Answers.{versionOf}
 use Rattle.primitives_put.specs.declared.Form.{Form}
@@ -42,7 +42,7 @@ use Rattle.metadata_request.specs.Shapes.{creationField, creationShape, 
 
 is-shape : (v : ℕ) → v ≤ 4 → shape request v ≡ requestShape (leb 4 v)
 unfolding shape at stands standing requestRows nameRows
-is-shape = up-to 4 (λ v. shape request v ≡ requestShape (leb 4 v)) (refl, (refl, (refl, (refl, refl))))
+is-shape = up-to-four (λ v. shape request v ≡ requestShape (leb 4 v)) refl refl refl refl refl
 
 -- ---- names
 

@@ -14,14 +14,13 @@ use Rattle.layout.proofs.Local.{not-ok}
 use Rattle.layout.proofs.Proper.{metadata-response}
 use Rattle.primitives.specs.Answers.{noRoom, ofRefusal, versionOf}
 use Rattle.primitives.specs.declared.Refusal as Code
-use Rattle.primitives.proofs.Versions.{up-to}
 use Rattle.body_reading.specs.Meter.{lengths, metered, short}
 use Rattle.body_reading.specs.Store.{State, own, tab}
 use Rattle.body_reading.specs.Walk.{on, walk}
 use Rattle.body_reading.proofs.Bound.{lean, slim, taken}
 use Rattle.body_reading.proofs.Close.{slices, tabs}
 use Rattle.body_reading.proofs.Metered.{is-known, measured-no, measured-took, metered-fits, metered-no, metered-short}
-use Rattle.body_reading.proofs.Reply.{cells-here, cells-next, short-here, short-next, short-none}
+use Rattle.body_reading.proofs.Reply.{cells-here, cells-next, short-here, short-next, short-none, up-to-four}
 use Rattle.metadata_response.specs.Brokers.{brokerShape}
 use Rattle.metadata_response.specs.TopicShapes.{nodeShape, partitionShape, topicShape}
 use Rattle.metadata_response.specs.declared.marks.Marks.{Marks}
@@ -45,7 +44,7 @@ row-widths = refl
 -- the layout of a version, by what sets it apart
 pub shape-is : (v : ℕ) → v ≤ 4 → shape Meta.response v ≡ bodyShape v
 unfolding shape at stands standing Meta.nodeRows Meta.partitionRows Meta.topicRows Meta.brokerRows Meta.responseRows bodyShape tailShape brokerShape topicShape partitionShape nodeShape
-shape-is = up-to 4 (λ v. shape Meta.response v ≡ bodyShape v) (refl, (refl, (refl, (refl, refl))))
+shape-is = up-to-four (λ v. shape Meta.response v ≡ bodyShape v) refl refl refl refl refl
 
 -- ---- room, in table order
 

@@ -7,7 +7,6 @@ pub mod Varint
 pub mod Behind
 -- versions, and a Boolean as a number
 pub mod Versions
-pub mod Set
 -- a primitive called by itself
 pub mod Alone
 -- a promise determines the reply: numbers, and counts, data and texts

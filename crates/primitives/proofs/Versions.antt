@@ -1,8 +1,8 @@
--- A version that is not negative is its own number, and one that a message does not have is refused with 1. What holds of all versions is shown one by one, by `up-to` and `between`.
+-- What calls are given: a version that is not negative is its own number, and one that a message does not have is refused with 1; and a Boolean as a number, of which 0 is false. What holds of all versions is shown one by one, by `up-to` and `between`.
 use mathlib.Core.Bool.{Bool, false, true}
 use mathlib.Core.List.{List}
 use mathlib.Core.Path.{_∙_, _≡_, ap, refl, sym}
-use Prim.Native.Nat.{_-_, _<_, _^_, _≤_, ℕ}
+use Prim.Native.Nat.{_-_, _<_, _^_, _≤_, suc, zero, ℕ}
 use native.Mathlib.Omega.{arith}
 use lib.Dec.{T}
 use lib.IntN.{natAbs, negsuc, pos, ℤ}
@@ -14,11 +14,11 @@ use borrow.Author.Tests.{le-ltb}
 use Rattle.layout.specs.Reading.{Refusal, bad, because}
 use Rattle.layout.specs.Tables.{Tables}
 use Rattle.layout.specs.Answers.{Answer, Message, made, prefixRead, readAnswer, refused, wholeRead, writeAnswer}
+use Rattle.primitives.specs.Answers.{isSet, versionOf}
 use Rattle.layout.proofs.Calls as Calls
 use Rattle.layout.proofs.Calls.{read-refused, version-above}
 use Rattle.layout.proofs.Tests.{le-false}
 pub use Rattle.utf8.proofs.Lines.{Each, between, up-to}
-use Rattle.primitives.specs.Answers.{versionOf}
 
 not-both : {b : Bool} → b ≡ true → b ≡ false → ⊥
 not-both {b} e g = let z : _≡_ {A = ℕ} 0 1 = cc in omega arith
@@ -88,3 +88,12 @@ module _ (m : Message) (z : ℤ) (f : SFits w64 z) (olds : Tables) (s : List ℕ
 
 pub passed : (z : ℤ) → SFits w64 z → (v : ℕ) → v ≡ versionOf (toZ w64 (ofZ w64 z)) → v ≡ versionOf z
 passed z f v e = e ∙ ap versionOf (toZ-ofZ f)
+
+pub unset : (n : ℕ) → n ≡ 0 → isSet n ≡ false
+unfolding isSet
+unset n e = ap isSet e
+
+pub set : (n : ℕ) → (n ≡ 0 → ⊥) → isSet n ≡ true
+unfolding isSet
+set zero h = absurd (h refl)
+set (suc n) h = refl

@@ -1,7 +1,7 @@
 -- The front of the body is read where the brokers' reader reads it, and the brokers behind it.
 use mathlib.Core.Path.{_∙_, ap, sym}
 use Rattle.body_reading.specs.Fronts.{ofFront}
-use Rattle.metadata_lookup.proofs.Search.{among, front-no}
+use Rattle.metadata_lookup.proofs.Bodies.{among, front-no}
 use borrow.Author.Needs.{needs}
 use Rattle.metadata_lookup.proofs.host_in.Statement.{statement}
 use Rattle.metadata_lookup.proofs.host_in.Tie as tie

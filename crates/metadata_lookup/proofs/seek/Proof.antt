@@ -4,7 +4,7 @@ use mathlib.Core.Path.{_∙_, ap, sym}
 use Rattle.primitives.specs.Answers.{ofRefusal}
 use Rattle.body_reading.specs.Walk.{rowFrom}
 use Rattle.metadata_response.specs.Brokers.{brokerShape, ofBroker, ofBrokerRow}
-use Rattle.metadata_lookup.proofs.Search.{Left, left-all, left-here, left-no, left-none, left-past}
+use Rattle.metadata_lookup.proofs.Bodies.{Left, left-all, left-here, left-no, left-none, left-past}
 use borrow.Author.Needs.{needs}
 use Rattle.metadata_lookup.proofs.seek.Statement.{statement}
 use Rattle.metadata_lookup.proofs.seek.Tie as tie

@@ -1,6 +1,6 @@
 -- 0 is false, any other number true.
 use mathlib.Core.Path.{sym}
-use Rattle.primitives.proofs.Set.{set, unset}
+use Rattle.primitives.proofs.Versions.{set, unset}
 use Rattle.primitives.proofs.is_set.Statement.{statement}
 use Rattle.primitives.proofs.is_set.Tie as tie
 
