@@ -49,7 +49,8 @@ enum {
     BEFROLAN_LENGTH_BELOW = 4,      /* a length or count below what is allowed. Its start */
     BEFROLAN_VARINT_CONTINUES = 5,  /* the tenth byte of a varint continues. The varint's start */
     BEFROLAN_LENGTH_ZERO = 6,       /* length 0 in a compact string or compact bytes. Its start */
-    BEFROLAN_NOT_TEXT = 7,          /* a text that is not UTF-8. Its start */
+    BEFROLAN_NOT_TEXT = 7,          /* a text that is not UTF-8. The first byte of its first sequence that is ill-formed or
+                                       cut: what is before that in the text is well-formed */
     BEFROLAN_NULL_ITEMS = 8,        /* null items in a whole read. The count's start */
     BEFROLAN_BYTES_LEFT = 9,        /* bytes left over in a whole read. The first of them */
     BEFROLAN_NO_ROOM = 10,          /* a table or the output is too small; `need` tells the rows or bytes needed. Place 0 */

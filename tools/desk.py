@@ -34,6 +34,9 @@ APIS = {18: "ApiVersions", 3: "Metadata", 1: "Fetch"}
 ABSENT = object()
 # These are about the message as a whole, and not about a byte of it.
 PLACELESS = (1, 2)
+NOT_TEXT = 7
+# The first two bytes of characters in more bytes than they need.
+OVERLONG = {(0xE0, second) for second in range(0x80, 0xA0)} | {(0xF0, second) for second in range(0x80, 0x90)}
 SOME_MINUTES = "the first time this takes some minutes"
 
 
@@ -279,8 +282,11 @@ def refusal(words):
     return row(number=int(n), means=MEANS[n], place=int(place), need=int(need))
 
 
-def refused(what, body, words, json_wanted, more=()):
+def refused(what, body, words, json_wanted, asking, more=()):
+    """`asking` makes the case of the same question about another body."""
     said = refusal(words)
+    if said["number"] == NOT_TEXT:
+        said["letter"] = wrong_letter(body, said["place"], asking)
     if json_wanted:
         print(json.dumps(row(message=what, accepted=False, refusal=said)))
         return 1
@@ -291,8 +297,41 @@ def refused(what, body, words, json_wanted, more=()):
     else:
         print(f"place {place} of {len(body)} bytes" + (", which is the end of the message" if place == len(body) else ""))
         print("\n".join(around(body, place)))
+    if "letter" in said:
+        print(said["letter"])
     print("\n".join(more), end="\n" if more else "")
     return 1
+
+
+def of_text(body, place, count, asking):
+    """How many of the bytes from the place on, at which a text goes wrong, are still the text's. Each is made one that starts no sequence, after plain letters: if it is the text's, it is what is refused then."""
+    tried = [body[:place] + b"a" * k + b"\xff" + body[place + k + 1:] for k in range(1, count)]
+    answers = answering([asking(other) for other in tried]) if tried else []
+    return 1 + sum(words[:3] == ["no", str(NOT_TEXT), str(place + k)] for k, words in enumerate(answers, 1))
+
+
+def wrong_letter(body, place, asking):
+    """What is wrong in a text from the place on: docs/RULES.md, section 3."""
+    first = body[place]
+    if first in range(0x80, 0xC0):
+        return f"{first:02x} starts no sequence: it can only go on one"
+    if first in (0xC0, 0xC1):
+        return f"{first:02x} starts an overlong form: the character has one byte"
+    if first >= 0xF5:
+        return f"{first:02x} starts no sequence: it is in no text"
+    length = 2 + (first >= 0xE0) + (first >= 0xF0)
+    there = of_text(body, place, length, asking)
+    for k in range(1, there):
+        byte = body[place + k]
+        if byte not in range(0x80, 0xC0):
+            return f"{first:02x} starts a sequence of {length} bytes, and a continuation is missing: {byte:02x} at place {place + k} is none"
+        if k == 1 and (first, byte) in OVERLONG:
+            return f"{first:02x} {byte:02x} starts an overlong form: the character has fewer bytes"
+        if k == 1 and first == 0xED and byte >= 0xA0:
+            return f"{first:02x} {byte:02x} starts a surrogate, which is no character"
+        if k == 1 and first == 0xF4 and byte >= 0x90:
+            return f"{first:02x} {byte:02x} starts a number above U+10FFFF, which is no character"
+    return f"{first:02x} starts a sequence of {length} bytes, and the text ends after {there} of them"
 
 
 def other_layouts(body, version, words):
@@ -318,10 +357,11 @@ def accepted(what, body, used, said, json_wanted):
 
 def read(message, version, body, json_wanted, whole=False):
     what = f"{message} version {version}" + (", read whole" if whole else "")
-    words, tables = ask(WHOLE if whole else READS[message], version, body)
+    call = WHOLE if whole else READS[message]
+    words, tables = ask(call, version, body)
     if words[0] != "ok":
         hint = message == "api-versions" and not json_wanted
-        return refused(what, body, words, json_wanted, other_layouts(body, version, words) if hint else ())
+        return refused(what, body, words, json_wanted, lambda other: wording(call, version, other), other_layouts(body, version, words) if hint else ())
     says = {"api-versions": response, "api-versions-request": request, "metadata": metadata}.get(message, lambda *given: fetch(version, *given))
     return accepted(what, body, int(words[1]), says(body, words[2:], tables), json_wanted)
 
@@ -330,16 +370,17 @@ def agree(version, body, json_wanted):
     what = f"api-versions version {version}, read whole"
     words, tables = ask(WHOLE, version, body)
     if words[0] != "ok":
-        return refused(what, body, words, json_wanted, () if json_wanted else other_layouts(body, version, words))
+        return refused(what, body, words, json_wanted, lambda other: wording(WHOLE, version, other), () if json_wanted else other_layouts(body, version, words))
     _, used, _, items, *_ = words
     return accepted(what, body, int(used), row(agreed=agreed(cut(tables[0], int(items)))), json_wanted)
 
 
 def host(node, version, body, json_wanted):
     what = f"host of node {node}, metadata version {version}"
-    words = answering([f"host {version} {node} {body[:MOST + 1].hex() or '-'}"])[0]
+    asking = lambda other: f"host {version} {node} {other[:MOST + 1].hex() or '-'}"
+    words = answering([asking(body)])[0]
     if words[0] != "ok":
-        return refused(what, body, words, json_wanted)
+        return refused(what, body, words, json_wanted, asking)
     found = None if words[1] == "none" else text(words[1])
     if json_wanted:
         print(json.dumps(row(message=what, accepted=True, host=found)))

@@ -29,7 +29,8 @@ impl Refusal {
     pub const VARINT_CONTINUES: u8 = 5;
     /// A compact string or compact bytes have the length 0.
     pub const LENGTH_ZERO: u8 = 6;
-    /// A text is not UTF-8.
+    /// A text is not UTF-8. On reading the place is where its first sequence starts that is ill-formed, or cut by the text's
+    /// end: what is before that in the text is well-formed.
     pub const NOT_TEXT: u8 = 7;
     /// The items are null, in a whole read.
     pub const NULL_ITEMS: u8 = 8;

@@ -217,6 +217,17 @@ fn an_answer_is_written_and_comes_back() {
 }
 
 #[test]
+fn a_text_is_refused_at_its_first_bad_letter() {
+    // One topic of Metadata 0, without brokers: its name is "caf", E9 for é as Latin-1 has it, and "s".
+    let body = hex("00000000 00000001 0000 0005 636166e973 00000000");
+    let mut tables = MetadataTables::default();
+    let e = read_metadata_response(&body, 0, &mut tables).unwrap_err();
+    assert_eq!((e.number, e.place, body[e.place]), (Refusal::NOT_TEXT, 15, 0xe9));
+    assert_eq!(find_host(&body, 0, 1), Err(e));
+    assert_eq!(well_formed(&body[12..17]), 3);
+}
+
+#[test]
 fn refusals_have_the_words_of_the_night_desk() {
     let words = include_str!("../../data/refusals.txt");
     assert_eq!(words.lines().count(), 13);

@@ -50,10 +50,10 @@ for n in [-(2**31) - 1, -(2**31), -8193, -8192, -65, -64, -1, 0, 63, 64, 8191, 8
 for n in [-(2**63), -(2**62) - 1, -(2**62), -1, 0, 2**62 - 1, 2**62, 2**63 - 1]:
     signed(n, 64)
 
-# the four texts
+# the four texts, which start at 2: the others go wrong with their first byte
 print("4 from 2, used 6")
 for _ in range(3):
-    refused(7)
+    refused(7, 2)
 
 # written: the first of them, and 7 for the others; six bytes have no room for the seven of "abcde" and its length
 shown([0, 4, 0xF4, 0x8F, 0xBF, 0xBF])

@@ -167,3 +167,36 @@ pub static FETCH_REQUEST_WRITE: WriteBody = WriteBody {
     rust: rust::fetch::write_request,
     unavailable: never,
 };
+
+/// Every read that fills lent tables.
+pub static READ_BODIES: [&ReadBody; 7] = [
+    &TAGGED_FIELDS,
+    &RESPONSE_READS[0],
+    &RESPONSE_READS[1],
+    &RESPONSE_READS[2],
+    &REQUEST_READ,
+    &METADATA_READ,
+    &FETCH_READ,
+];
+
+/// What a word of a case is that gives a field of a body row.
+#[derive(Debug, Clone, Copy, PartialEq, Eq)]
+pub enum Kind {
+    Number,
+    /// Each of these can be `absent`, which is unset.
+    NumberOrUnset,
+    PartOrUnset,
+    FlagOrUnset,
+}
+
+/// Every write from tables: what its words are, and how many tables it is given.
+pub static WRITE_BODIES: [(&WriteBody, &[Kind], usize); 5] = {
+    use Kind::{FlagOrUnset, Number, NumberOrUnset, PartOrUnset};
+    [
+        (&WRITE_TAGGED_FIELDS, &[Number], 1),
+        (&RESPONSE_WRITE, &[Number, Number, NumberOrUnset, Number], 2),
+        (&REQUEST_WRITE, &[PartOrUnset, PartOrUnset, Number], 1),
+        (&METADATA_REQUEST_WRITE, &[Number, FlagOrUnset], 1),
+        (&FETCH_REQUEST_WRITE, &[Number, Number, Number, NumberOrUnset, NumberOrUnset, Number], 2),
+    ]
+};

@@ -7,6 +7,8 @@ pub mod judge;
 pub mod line;
 pub mod make;
 pub mod model;
+pub mod parse;
 pub mod rust;
+pub mod stored;
 pub mod tally;
 pub mod token;

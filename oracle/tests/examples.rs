@@ -130,7 +130,7 @@ fn refusals_have_the_places_of_entry_8() {
     let nines = [[0xff; 9].as_slice(), &[0x80, 0]].concat();
     differs(&primitive("int32", &[0, 0, 1]), None, "no 3 0 0");
     differs(&primitive("string", &[0xff, 0xff, 0x61]), None, "no 4 0 0");
-    differs(&primitive("string", &[0, 2, 0xc3, 0x28, 0xff]), None, "no 7 0 0");
+    differs(&primitive("string", &[0, 2, 0xc3, 0x28, 0xff]), None, "no 7 2 0");
     differs(&primitive("unsigned_varint", &nines), None, "no 5 0 0");
 }
 

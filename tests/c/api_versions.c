@@ -98,7 +98,7 @@ static void requests_read(void)
     CHECK(no_request(request(none, 0, 3, 12), 3, 0, 0));
     CHECK(no_request(request(B(0), 1, 3, 12), 6, 0, 0));
     CHECK(no_request(request(B(1, 0), 2, 3, 12), 6, 1, 0));
-    CHECK(no_request(request(B(3, 0xc0, 0x80, 1, 0), 5, 3, 12), 7, 0, 0));
+    CHECK(no_request(request(B(3, 0xc0, 0x80, 1, 0), 5, 3, 12), 7, 1, 0));
     CHECK(no_request(request(B(1, 3, 'a'), 3, 3, 12), 3, 1, 0));
     CHECK(no_request(request(m, 12, 4, 12), 1, 0, 0));
     CHECK(no_request(request(m, 12, -32768, 12), 1, 0, 0));

@@ -249,18 +249,18 @@ static void answers_refused(void)
     BAD(0, 4, 4, COUNT(1), 0xff, 0xff);
     BAD(0, 4, 4, COUNT(1), 0x80, 0, 0, 0);
     BAD(4, 4, 8, COUNT(0), COUNT(1), 0xff, 0xfe, COUNT(0));
-    BAD(0, 7, 4, COUNT(1), 0, 2, 0xc0, 0x80);
-    BAD(1, 7, 8, COUNT(0), COUNT(1), 0, 3, 0xed, 0xa0, 0x80, COUNT(0));
-    BAD(2, 7, 8, COUNT(0), COUNT(1), 0, 4, 0xf4, 0x90, 0x80, 0x80);
-    BAD(3, 7, 8, COUNT(0), COUNT(1), 0, 2, 'a', 0xc3, 0xa9, COUNT(0));
-    BAD(4, 7, 8, COUNT(0), COUNT(1), 0, 1, 0x80, COUNT(0));
+    BAD(0, 7, 6, COUNT(1), 0, 2, 0xc0, 0x80);
+    BAD(1, 7, 10, COUNT(0), COUNT(1), 0, 3, 0xed, 0xa0, 0x80, COUNT(0));
+    BAD(2, 7, 10, COUNT(0), COUNT(1), 0, 4, 0xf4, 0x90, 0x80, 0x80);
+    BAD(3, 7, 11, COUNT(0), COUNT(1), 0, 2, 'a', 0xc3, 0xa9, COUNT(0));
+    BAD(4, 7, 10, COUNT(0), COUNT(1), 0, 1, 0x80, COUNT(0));
     BAD(0, 3, 4, COUNT(1), 0, 4, 0xc0, 0x80);
     BAD(0, 3, 4, COUNT(1), 0x7f, 0xff, 'a');
     /* in the second topic: behind the records of a partition of the first */
-    BAD(0, 7, 29, COUNT(2), 0, 0, COUNT(1), COUNT(2), 0, 0, LONG(0), COUNT(1), 0xff, 0, 1, 0xff, COUNT(0));
+    BAD(0, 7, 31, COUNT(2), 0, 0, COUNT(1), COUNT(2), 0, 0, LONG(0), COUNT(1), 0xff, 0, 1, 0xff, COUNT(0));
     BAD(0, 4, 29, COUNT(2), 0, 0, COUNT(1), COUNT(2), 0, 0, LONG(0), COUNT(1), 0xff, 0xff, 0xff, COUNT(0));
     /* two faults: the first in the order of the bytes */
-    BAD(0, 7, 4, COUNT(1), 0, 1, 0xff, BELOW);
+    BAD(0, 7, 6, COUNT(1), 0, 1, 0xff, BELOW);
     BAD(0, 4, 7, COUNT(2), 0, 1, 'a', BELOW, 0, 1, 0xff, COUNT(0));
     BAD(4, 4, 36, LONE4, BELOW, BELOW);
     BAD(0, 4, 24, COUNT(2), 0, 0, COUNT(1), COUNT(2), 0, 0, LONG(0), BELOW, 0, 1, 0xff, COUNT(0));

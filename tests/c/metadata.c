@@ -202,11 +202,12 @@ static void metadata_refused(void)
     BAD(1, 4, 14, COUNT(1), COUNT(1), 0, 0, COUNT(0), 0xff, 0xfe);
     BAD(2, 4, 4, NONE, 0xff, 0xfe);
     BAD(0, 4, 10, NONE, COUNT(1), 0, 0, 0xff, 0xff);
-    BAD(0, 7, 8, COUNT(1), COUNT(1), 0, 2, 0xc0, 0x80);
-    BAD(1, 7, 14, COUNT(1), COUNT(1), 0, 0, COUNT(0), 0, 1, 0xff);
-    BAD(2, 7, 4, NONE, 0, 3, 0xed, 0xa0, 0x80);
-    BAD(4, 7, 8, COUNT(0), NONE, 0, 4, 0xf4, 0x90, 0x80, 0x80);
-    BAD(0, 7, 10, NONE, COUNT(1), 0, 0, 0, 1, 0x80);
+    BAD(0, 7, 10, COUNT(1), COUNT(1), 0, 2, 0xc0, 0x80);
+    BAD(1, 7, 16, COUNT(1), COUNT(1), 0, 0, COUNT(0), 0, 1, 0xff);
+    BAD(2, 7, 6, NONE, 0, 3, 0xed, 0xa0, 0x80);
+    BAD(4, 7, 10, COUNT(0), NONE, 0, 4, 0xf4, 0x90, 0x80, 0x80);
+    BAD(0, 7, 12, NONE, COUNT(1), 0, 0, 0, 1, 0x80);
+    BAD(0, 7, 15, NONE, COUNT(1), 0, 0, 0, 5, 0xc3, 0xa9, 't', 0xc3, 0x28);
     /* contents cut short come before contents that are no text */
     BAD(0, 3, 8, COUNT(1), COUNT(1), 0, 3, 0xc0, 0x80);
     /* the largest counts, with nothing or with one item behind them */
@@ -253,7 +254,7 @@ static void hosts(void)
     CHECK(host(B(COUNT(1), NONE, 0, 1, 'n', COUNT(1), COUNT(0)), 19, 0, -1, 10, 1));
     CHECK(no_host(B(COUNT(1), NONE, 0, 1, 'n', COUNT(1), COUNT(0)), 19, 0, INT64_C(4294967295), 0, 0));
     /* damage behind the broker: in the next one, in a rack, in a topic */
-    CHECK(no_host(B(COUNT(2), COUNT(1), 0, 1, 'h', COUNT(1), COUNT(2), 0, 1, 0xff, COUNT(1), COUNT(0)), 30, 0, 1, 7, 19));
+    CHECK(no_host(B(COUNT(2), COUNT(1), 0, 1, 'h', COUNT(1), COUNT(2), 0, 1, 0xff, COUNT(1), COUNT(0)), 30, 0, 1, 7, 21));
     CHECK(no_host(B(COUNT(1), COUNT(1), 0, 1, 'h', COUNT(1), 0xff, 0xfe, COUNT(1), COUNT(0)), 25, 1, 1, 4, 15));
     CHECK(no_host(B(COUNT(1), COUNT(1), 0, 1, 'h', COUNT(1), COUNT(1), 0, 0, 0xff, 0xff, COUNT(0)), 27, 0, 1, 4, 21));
     /* more brokers than any table here has rows: there is no 10 */

@@ -44,14 +44,20 @@ static int took(uint64_t kind, const uint8_t *m, size_t n, int64_t used, int64_t
     return USED(r, used) && r.form == form && r.value == value && r.length == length;
 }
 
-static int no_primitive(uint64_t kind, const uint8_t *m, size_t n, int64_t number)
+static int no_primitive_at(uint64_t kind, const uint8_t *m, size_t n, int64_t number, int64_t place)
 {
     befrolan_primitive_numbers r = befrolan_read_primitive(m, n, kind);
-    return REFUSED(r, number, 0, 0) && r.form == 0 && r.value == 0 && r.length == 0;
+    return REFUSED(r, number, place, 0) && r.form == 0 && r.value == 0 && r.length == 0;
+}
+
+static int no_primitive(uint64_t kind, const uint8_t *m, size_t n, int64_t number)
+{
+    return no_primitive_at(kind, m, n, number, 0);
 }
 
 #define TOOK(kind, used, form, value, length, ...) CHECK(took(kind, B(__VA_ARGS__), LEN(__VA_ARGS__), used, form, value, length))
 #define NOT(kind, number, ...) CHECK(no_primitive(kind, B(__VA_ARGS__), LEN(__VA_ARGS__), number))
+#define NO_TEXT(kind, place, ...) CHECK(no_primitive_at(kind, B(__VA_ARGS__), LEN(__VA_ARGS__), BEFROLAN_NOT_TEXT, place))
 
 static void primitives_read(void)
 {
@@ -103,9 +109,13 @@ static void primitives_read(void)
     TOOK(BEFROLAN_RECORDS, 5, 2, 4, 1, 0, 0, 0, 1, 0xc0);
     TOOK(BEFROLAN_STRING, 4, 2, 2, 2, 0, 2, 'a', 'b');
     TOOK(BEFROLAN_STRING, 6, 2, 2, 4, 0, 4, 0xf4, 0x8f, 0xbf, 0xbf);
-    NOT(BEFROLAN_STRING, 7, 0, 4, 0xf4, 0x90, 0x80, 0x80);
-    NOT(BEFROLAN_STRING, 7, 0, 2, 0xc0, 0x80);
-    NOT(BEFROLAN_STRING, 7, 0, 3, 0xed, 0xa0, 0x80);
+    NO_TEXT(BEFROLAN_STRING, 2, 0, 4, 0xf4, 0x90, 0x80, 0x80);
+    NO_TEXT(BEFROLAN_STRING, 2, 0, 2, 0xc0, 0x80);
+    NO_TEXT(BEFROLAN_STRING, 2, 0, 3, 0xed, 0xa0, 0x80);
+    NO_TEXT(BEFROLAN_STRING, 3, 0, 3, 'a', 0xc3, 0x28);
+    NO_TEXT(BEFROLAN_NULLABLE_STRING, 4, 0, 4, 0xc3, 0xa9, 0xe2, 0x82);
+    NO_TEXT(BEFROLAN_COMPACT_STRING, 3, 4, 'a', 'b', 0xbf);
+    NO_TEXT(BEFROLAN_COMPACT_NULLABLE_STRING, 2, 0x82, 0, 0xff);
     NOT(BEFROLAN_STRING, 4, 0xff, 0xff);
     TOOK(BEFROLAN_NULLABLE_STRING, 2, 1, 0, 0, 0xff, 0xff);
     TOOK(BEFROLAN_NULLABLE_STRING, 2, 2, 2, 0, 0, 0);
@@ -115,7 +125,7 @@ static void primitives_read(void)
     NOT(BEFROLAN_COMPACT_STRING, 6, 0);
     TOOK(BEFROLAN_COMPACT_NULLABLE_STRING, 1, 1, 0, 0, 0);
     TOOK(BEFROLAN_COMPACT_NULLABLE_STRING, 2, 2, 1, 1, 2, 'a');
-    NOT(BEFROLAN_COMPACT_NULLABLE_STRING, 7, 2, 0xff);
+    NO_TEXT(BEFROLAN_COMPACT_NULLABLE_STRING, 1, 2, 0xff);
 }
 
 /* ---- primitives, written */

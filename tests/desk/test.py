@@ -111,6 +111,45 @@ def made():
         check(f"an answer with {keys} rows", (said.get("body"), code), (v, 0))
 
 
+# Contents of a text, the byte of it that is marked, and what is said about it. PLACE is that of the byte which should go on the sequence.
+LETTERS = [
+    (b"a\xbf", 1, "bf starts no sequence: it can only go on one"),
+    (b"\xff", 0, "ff starts no sequence: it is in no text"),
+    (b"ab\xc0\x80", 2, "c0 starts an overlong form: the character has one byte"),
+    (b"\xe0\x9f\xbf", 0, "e0 9f starts an overlong form: the character has fewer bytes"),
+    (b"\xf0\x8f\xbf\xbf", 0, "f0 8f starts an overlong form: the character has fewer bytes"),
+    ("é".encode() + b"\xed\xa0\x80z", 2, "ed a0 starts a surrogate, which is no character"),
+    (b"\xf4\x90\x80\x80", 0, "f4 90 starts a number above U+10FFFF, which is no character"),
+    (b"a\xc3(b", 1, "c3 starts a sequence of 2 bytes, and a continuation is missing: 28 at place PLACE is none"),
+    (b"\xe2\x82(", 0, "e2 starts a sequence of 3 bytes, and a continuation is missing: 28 at place PLACE is none"),
+    (b"abc\xc3", 3, "c3 starts a sequence of 2 bytes, and the text ends after 1 of them"),
+    ("漢".encode() + b"\xf0\x9f\x98", 3, "f0 starts a sequence of 4 bytes, and the text ends after 3 of them"),
+    (b"a" * 5000 + b"\xe2\x82", 5000, "e2 starts a sequence of 3 bytes, and the text ends after 2 of them"),
+]
+
+
+def letters():
+    """Each bad letter in a text of each message. What comes after the text begins with 80, which would go on a sequence."""
+    broker = i32(7) + string("h") + i32(9) + string(None)
+    texts = (
+        (["read", "metadata", "4"], i32(0) + array([b""], lambda _: broker) + string("c") + i32(1) + i32(1) + i16(0), b"\x80" + i32(0)),
+        (["read", "metadata", "0"], i32(1) + i32(7), b"\x80\0\0\0" + i32(0)),
+        (["host", "7", "4"], i32(0) + i32(1) + broker[:-2], b"\x80\0" + i32(1) + i32(0)),
+        (["read", "fetch", "4"], i32(0) + i32(1), b"\x80\0\0\0"),
+    )
+    for contents, marked, words in LETTERS:
+        for question, front, after in texts:
+            body = front + i16(len(contents)) + contents + after
+            place = len(front) + 2 + marked
+            missing = body.find(b"(", place)
+            said = words.replace("PLACE", str(missing))
+            out, _, code = asked([*question, "--raw"], body)
+            under = next((above[10:][line.index("^") - 10:][:2] for above, line in zip(out.split("\n"), out.split("\n")[1:]) if "^^" in line), "")
+            check(f"{question}, {contents[-9:]}: its words and its mark", (said in out.split("\n"), under, code), (True, f"{body[place]:02x}", 1))
+            refusal = {"number": 7, "means": "a text is not UTF-8", "place": place, "need": 0, "letter": said}
+            check(f"{question}, {contents[-9:]}, in JSON", told([*question, "--raw"], body), ({"message": out.split(":")[0], "accepted": False, "refusal": refusal}, 1))
+
+
 def sizes():
     """A Fetch response of exactly the most bytes, one of a byte more, and one of many more."""
     front = i32(0) + i32(1) + string("t") + i32(1) + i32(0) + i16(0) + i64(1) + i64(1) + i32(0)
@@ -227,7 +266,7 @@ def night():
 
 # The first question has what it needs built, and says so.
 asked(["read", "api-versions", "0"], bytes(6))
-for part in (stored, made, sizes, large, forms, frames, usage, versions, night):
+for part in (stored, made, letters, sizes, large, forms, frames, usage, versions, night):
     part()
 print(f"desk: {tried} checks, {len(wrong)} wrong")
 sys.exit(1 if wrong else 0)

@@ -6,7 +6,7 @@ use Prim.Native.Nat.{_*_, _+_, _-_, _≤_, suc, zero, ℕ}
 use native.Mathlib.Omega.{arith}
 use lib.Dec.{leb}
 use lib.ListN.{length}
-use Rattle.layout.specs.Reading.{Reader, give, loop, ok, primitive, then}
+use Rattle.layout.specs.Reading.{Reader, give, loop, ok, single, then}
 use Rattle.layout.specs.Primitives.{Size, Width, admits, cell, checked, compact, fixed, flag, int, keeps, lengthOf, plain, refusal, size, sized, unsigned, w8, w16, w32, w64}
 use Rattle.layout.specs.Rows.{Basic, Shape, absent, array, blob, boolean, end, field, lacking, level, natural, number, optional, text}
 use Rattle.layout.specs.Read.{byPlace, readBasic}
@@ -15,7 +15,7 @@ use Rattle.layout.specs.Answers.{Message, shape}
 use Rattle.layout.proofs.Decode.{absent-width, cells-width}
 use Rattle.layout.proofs.Parts.{unsigned-small}
 use Rattle.layout.proofs.Proper.{all-from, both}
-use Rattle.layout.proofs.Steps.{int-inv, primitive-inv, split}
+use Rattle.layout.proofs.Steps.{int-inv, single-inv, split}
 use Rattle.layout.proofs.Tests.{of-le}
 
 -- ---- a reader that takes a byte
@@ -26,8 +26,8 @@ record Takes {A : Type 0} (r : Reader A) : Type 0 where
 takes-then : {A B : Type 0} (r : Reader A) (f : A → Reader B) → Takes r → Takes (then r f)
 takes-then r f h = record { law = λ p s y m e. let d = split r f p s y m e in let k = h .law p s (d .x) (d .n) (d .first) in omega (arith, d .sum) }
 
-takes-primitive : {A : Type 0} (r : Reader A) → Takes r → Takes (primitive r)
-takes-primitive r h = record { law = λ p s x n e. h .law p s x n (primitive-inv r p s x n e) }
+takes-single : {A : Type 0} (t : Bool) (r : Reader A) → Takes r → Takes (single t r)
+takes-single t r h = record { law = λ p s x n e. h .law p s x n (single-inv _ r p s x n e) }
 
 takes-int : (k : ℕ) → 1 ≤ k → Takes (int k)
 takes-int k h = record { law = λ p s x n e. let u = int-inv k p s x n e .used in omega arith }
@@ -49,7 +49,7 @@ takes-length plain = takes-then _ _ takes-unsigned
 
 takes-checked : (a : Bool) (e : ℕ) (z : Size) → Takes (checked a e (lengthOf unsigned z))
 unfolding checked
-takes-checked a e z = takes-primitive _ (takes-then _ _ (takes-length z))
+takes-checked a e z = takes-single _ _ (takes-then _ _ (takes-length z))
 
 takes-sized : {A : Type 0} (b a : Bool) (e : ℕ) (z : Size) (r : ℕ → Reader A) → Takes (sized b a e (lengthOf unsigned z) r)
 unfolding sized
@@ -66,8 +66,8 @@ takes-basic w (number b) = takes-cell b
 takes-basic w boolean = takes-then _ _ (takes-int 1 (omega arith))
 takes-basic w level = takes-cell w8
 takes-basic w natural = takes-unsigned
-takes-basic w (text z) = takes-primitive _ (takes-sized (keeps z) _ _ z _)
-takes-basic w (blob z) = takes-primitive _ (takes-sized (keeps z) _ _ z _)
+takes-basic w (text z) = takes-single _ _ (takes-sized (keeps z) _ _ z _)
+takes-basic w (blob z) = takes-single _ _ (takes-sized (keeps z) _ _ z _)
 takes-basic w (optional d k) = takes-basic w k
 
 -- ---- cells for bytes

@@ -1,4 +1,4 @@
--- Readers one behind the other at a place of a message: what code that reads step by step owes. A field that refuses at its own start, and as a step of a walk; and a loop over the items of an array, whatever tables it fills.
+-- Readers one behind the other at a place of a message: what code that reads step by step owes. A number that refuses at its own start, a field as a step of a walk; and a loop over the items of an array, whatever tables it fills.
 use mathlib.Core.List.{List}
 use mathlib.Core.Path.{_∙_, _≡_, ap, refl, sym}
 use mathlib.Core.Bool.{Bool, cond, false, true}
@@ -9,8 +9,8 @@ use lib.ListN.{drop, length, take}
 use lib.Seq.{drop-drop}
 use lib.Dec.{leb}
 use Rattle.layout.specs.Reading.{Reader, Refusal, Res, bad, because, give, loop, more, next, ok, pair, raw, then}
-use Rattle.layout.specs.Primitives.{Width, cell, flag, int, unsigned, w8}
-use Rattle.layout.specs.Rows.{Basic, BasicValue, Shape, blob, boolean, end, field, level, natural, number, optional, text}
+use Rattle.layout.specs.Primitives.{Width, cell, flag, int, unsigned}
+use Rattle.layout.specs.Rows.{Basic, BasicValue, Shape, end, field}
 use Rattle.layout.specs.Read.{byPlace, read, readBasic}
 use Rattle.layout.specs.Tables.{Span, cells, readRows}
 use Rattle.body_reading.specs.Walk.{Runs, on, walk}
@@ -99,7 +99,7 @@ module _ {S : Type 0} (r : S → Reader S) (s : List ℕ) where
       let m : n ≡ suc n - 1 = omega arith in
       e ∙ sym (then-took (r st) _ s p d refl) ∙ ap (λ k. on (loop k r st′) s q) m
 
--- ---- a field refuses at its own start
+-- ---- a number refuses at its own start
 
 raw-place : (n p : ℕ) (s : List ℕ) (e : Refusal) → raw n p s ≡ bad e → e ≡ because (e .number) p
 unfolding raw
@@ -121,20 +121,18 @@ int-place : (k p : ℕ) (s : List ℕ) (e : Refusal) → int k p s ≡ bad e →
 unfolding int
 int-place k p s e h = given-place (raw k) _ p s e (raw-place k p s) h
 
-cell-place : (w : Width) (p : ℕ) (s : List ℕ) (e : Refusal) → cell w p s ≡ bad e → e ≡ because (e .number) p
+pub cell-place : (w : Width) (p : ℕ) (s : List ℕ) (e : Refusal) → cell w p s ≡ bad e → e ≡ because (e .number) p
 unfolding cell
 cell-place w p s e h = given-place (int _) _ p s e (int-place _ p s) h
 
-module _ (w : Bool) where
-  pub field-place : (k : Basic) (p : ℕ) (s : List ℕ) (e : Refusal) → readBasic (byPlace w) k p s ≡ bad e → e ≡ because (e .number) p
-  unfolding readBasic flag unsigned
-  field-place (number b) p s e h = cell-place b p s e h
-  field-place boolean p s e h = given-place (int 1) _ p s e (int-place 1 p s) h
-  field-place level p s e h = cell-place w8 p s e h
-  field-place natural p s e h = primitive-place _ p s e h
-  field-place (text z) p s e h = primitive-place _ p s e h
-  field-place (blob z) p s e h = primitive-place _ p s e h
-  field-place (optional d k) p s e h = field-place k p s e h
+-- a Boolean, and an unsigned varint
+pub flag-place : (p : ℕ) (s : List ℕ) (e : Refusal) → flag p s ≡ bad e → e ≡ because (e .number) p
+unfolding flag
+flag-place p s e h = given-place (int 1) _ p s e (int-place 1 p s) h
+
+pub unsigned-place : (p : ℕ) (s : List ℕ) (e : Refusal) → unsigned p s ≡ bad e → e ≡ because (e .number) p
+unfolding unsigned
+unsigned-place p s e h = primitive-place _ p s e h
 
 -- a part that it shows is inside
 module _ (w : Bool) (k : Basic) (left : List ℕ) (x : BasicValue Span k) (n : ℕ) (h : ok x n ≡ readBasic (byPlace w) k 0 left) where

@@ -8,21 +8,20 @@ use native.Mathlib.Omega.{arith}
 use lib.ListN.{drop, getD, length, length-drop, take}
 use lib.Dec.{ltb}
 use lib.Seq.{getD-drop, length-take-le, take-all, take-take}
-use Rattle.layout.specs.Reading.{Reader, Refusal, Res, bad, because, fail, give, more, next, ok, pick, placed, primitive, then}
+use Rattle.layout.specs.Reading.{Reader, Refusal, Res, bad, because, fail, give, more, next, ok, pick, placed, primitive, single, then}
 use Rattle.layout.specs.Primitives.{Null, Size, Width, admits, be, cell, cellOf, checked, fixed, flag, int, lengthOf, refusal, signed, size, unsigned}
-use Rattle.layout.specs.Rows.{Basic, boolean, items, natural, number}
-use Rattle.layout.specs.Read.{byPlace, readBasic}
+use Rattle.layout.specs.Rows.{items}
 use Rattle.primitives.specs.Parts.{counted}
 use Rattle.body_reading.specs.Walk.{itemCount, on}
 use Rattle.body_reading.specs.Moved.{Fits, arrayItems, fromPlace, frontAt}
-use Rattle.layout.proofs.Kept.{kept-length}
-use Rattle.layout.proofs.Local.{Local, local-basic, local-checked, local-flag, local-give, local-then, local-unsigned, locals, not-ok}
+use Rattle.layout.proofs.Kept.{kept-cell, kept-length}
+use Rattle.layout.proofs.Local.{Local, local-checked, local-flag, local-give, local-then, local-unsigned, locals, not-ok}
 use Rattle.layout.proofs.Steps.{int-bad, int-ok, primitive-place}
 use Rattle.layout.proofs.Tests.{lt-false, lt-true, of-ge, of-lt}
 use Rattle.primitives.proofs.Cells.{cell-is}
 use Rattle.primitives.proofs.Varint.{ended, start}
-use Rattle.body_reading.proofs.Chains.{field-place}
-use Rattle.body_reading.proofs.Moves.{Moves, at-fits, at-no, at-took, furtherBasic, moves-basic, moves-checked, moves-items, still}
+use Rattle.body_reading.proofs.Chains.{cell-place, flag-place, unsigned-place}
+use Rattle.body_reading.proofs.Moves.{Moves, at-fits, at-no, at-took, moves-cell, moves-checked, moves-flag, moves-items, moves-unsigned, still}
 
 -- what a primitive owes to be read so: it does not look where it stands, takes no more than is there, and refuses at its own start
 pub record Portable {A : Type 0} (r : Reader A) (g : ℕ → A → A) : Type 0 where
@@ -30,21 +29,14 @@ pub record Portable {A : Type 0} (r : Reader A) (g : ℕ → A → A) : Type 0 w
   pub local : Local r
   pub at-start : (s : List ℕ) (e : Refusal) → r 0 s ≡ bad e → e ≡ because (e .number) 0
 
--- every kind of field
-pub portable-field : (w : Bool) (k : Basic) → Portable (readBasic (byPlace w) k) (furtherBasic k)
-portable-field w k = record { moves = moves-basic w k; local = local-basic (byPlace w) local-unsigned local-flag k; at-start = λ s e h. field-place w k 0 s e h }
-
 pub portable-cell : (w : Width) → Portable (cell w) still
-unfolding readBasic
-portable-cell w = portable-field false (number w)
+portable-cell w = record { moves = moves-cell w; local = kept-cell locals w; at-start = λ s e h. cell-place w 0 s e h }
 
 pub portable-unsigned : Portable unsigned still
-unfolding readBasic
-portable-unsigned = portable-field false natural
+portable-unsigned = record { moves = moves-unsigned; local = local-unsigned; at-start = λ s e h. unsigned-place 0 s e h }
 
 pub portable-flag : Portable flag still
-unfolding readBasic
-portable-flag = portable-field false boolean
+portable-flag = record { moves = moves-flag; local = local-flag; at-start = λ s e h. flag-place 0 s e h }
 
 checked-start : (a : Bool) (n : ℕ) (z : Size) (s : List ℕ) (e : Refusal) → checked a n (lengthOf unsigned z) 0 s ≡ bad e → e ≡ because (e .number) 0
 unfolding checked
@@ -130,8 +122,8 @@ front-then {A} k r f h b = record {
     go p s (bad e) = refl
 
 front-primitive : {A : Type 0} (k : ℕ) (r : Reader A) → Front k r → Front k (primitive r)
-unfolding primitive
-front-primitive k r h = record { part = λ p s l. ap (placed p) (h .part p s l); short = λ p s l. ap (placed p) (h .short p s l) }
+unfolding single
+front-primitive k r h = record { part = λ p s l. ap (placed false p) (h .part p s l); short = λ p s l. ap (placed false p) (h .short p s l) }
 
 pub front-cell : (w : Width) → Front (size w) (cell w)
 unfolding cell

@@ -1,19 +1,19 @@
 -- A primitive at another place: its value, its bytes and its refusals are the same, and starts and places count from there. One law for each kind of field.
-use mathlib.Core.Bool.{Bool, cond, false, true}
+use mathlib.Core.Bool.{Bool, _&&_, cond, false, true}
 use mathlib.Core.List.{List}
 use mathlib.Core.Option.{none, some}
 use mathlib.Core.Path.{_∙_, _≡_, ap, refl, sym}
 use Prim.Native.Nat.{_+_, _<_, suc, zero, ℕ}
 use native.Mathlib.Nat.{add-assoc, add-zero}
 use native.Mathlib.Omega.{arith}
-use lib.Dec.{leb}
+use lib.Dec.{eqb, leb}
 use lib.ListN.{drop, length, length-drop, take}
-use Rattle.layout.specs.Reading.{Reader, Refusal, Res, bad, because, fail, give, here, more, next, ok, pick, placed, primitive, raw, then}
+use Rattle.layout.specs.Reading.{Reader, Refusal, Res, bad, because, fail, failAt, give, here, more, next, ok, pick, placed, raw, single, then}
 use Rattle.layout.specs.Primitives.{Maybe, Size, Width, cell, checked, compact, fixed, flag, groups, int, keeps, lengthOf, plain, sized, unsigned, w8}
 use Rattle.layout.specs.Rows.{Basic, BasicValue, blob, boolean, level, natural, number, optional, text}
 use Rattle.layout.specs.Read.{byPlace, readBasic, readBlob, readText}
 use Rattle.layout.specs.Tables.{Span}
-use Rattle.layout.specs.Utf8.{utf8}
+use Rattle.layout.specs.Utf8.{utf8, wellFormed}
 use Rattle.layout.proofs.Local.{Local}
 use Rattle.body_reading.specs.Walk.{itemCount, on}
 
@@ -50,13 +50,17 @@ moves-raw n = record { law = λ d p s. go d p s (leb n (length s)) }
     go d p s true = refl
     go d p s false = refl
 
-moves-primitive : {A : Type 0} (r : Reader A) (g : ℕ → A → A) → Moves r g → Moves (primitive r) g
-unfolding primitive
-moves-primitive {A} r g h = record { law = λ d p s. ap (placed (d + p)) (h .law d p s) ∙ go d p (r p s) }
+moves-single : {A : Type 0} (t : Bool) (r : Reader A) (g : ℕ → A → A) → Moves r g → Moves (single t r) g
+unfolding single
+moves-single {A} t r g h = record { law = λ d p s. ap (placed t (d + p)) (h .law d p s) ∙ go d p (r p s) }
   where
-    go : (d p : ℕ) (o : Res A) → placed (d + p) (moved d (g d) o) ≡ moved d (g d) (placed p o)
+    kept : (d p : ℕ) (e : Refusal) (b : Bool) → bad (cond b (because (e .number) (d + e .place)) (because (e .number) (d + p))) ≡ moved d (g d) (bad (cond b e (because (e .number) p)))
+    kept d p e true = refl
+    kept d p e false = refl
+
+    go : (d p : ℕ) (o : Res A) → placed t (d + p) (moved d (g d) o) ≡ moved d (g d) (placed t p o)
     go d p (ok x n) = refl
-    go d p (bad e) = refl
+    go d p (bad e) = kept d p e (t && eqb (e .number) 7)
 
 more-moved : {A : Type 0} (d n : ℕ) (g : A → A) (o : Res A) → more n (moved d g o) ≡ moved d g (more n o)
 more-moved d n g (ok x m) = refl
@@ -91,7 +95,7 @@ moves-groups (suc k) m a = moves-then _ _ _ (moves-int 1) (λ b. moves-pick _ _ 
 
 pub moves-unsigned : Moves unsigned still
 unfolding unsigned
-moves-unsigned = moves-primitive _ _ (moves-groups _ _ _)
+moves-unsigned = moves-single _ _ _ (moves-groups _ _ _)
 
 pub moves-cell : (w : Width) → Moves (cell w) still
 unfolding cell
@@ -109,7 +113,7 @@ moves-length plain = moves-then _ _ _ moves-unsigned (λ n. moves-give _)
 
 pub moves-checked : (a : Bool) (e : ℕ) (z : Size) → Moves (checked a e (lengthOf unsigned z)) still
 unfolding checked
-moves-checked a e z = moves-primitive _ _ (moves-then _ _ _ (moves-length z) (λ n. moves-pick _ _ _ _ (moves-pick _ _ _ _ (moves-give _) (moves-fail _ _)) (moves-give _)))
+moves-checked a e z = moves-single _ _ _ (moves-then _ _ _ (moves-length z) (λ n. moves-pick _ _ _ _ (moves-pick _ _ _ _ (moves-give _) (moves-fail _ _)) (moves-give _)))
 
 pub moves-items : (w : Bool) (z : Size) → Moves (itemCount w z) still
 unfolding itemCount
@@ -144,15 +148,15 @@ furtherBasic (blob z) d x = furtherMaybe (keeps z) d x
 furtherBasic (optional c k) d x = furtherBasic k d x
 
 module _ (w : Bool) where
-  part-moves : (n : ℕ) (ok-part : List ℕ → Bool) → Moves (here (λ p. then (raw n) (λ b. pick (ok-part b) (give (p, length b)) (fail 7)))) further
-  unfolding here then pick give fail raw
+  part-moves : (n : ℕ) (ok-part : List ℕ → Bool) → Moves (here (λ p. then (raw n) (λ b. pick (ok-part b) (give (p, length b)) (failAt 7 (p + wellFormed b))))) further
+  unfolding here then pick give failAt raw
   part-moves n good = record { law = λ d p s. go d p s (leb n (length s)) }
     where
-      inner : (d p : ℕ) (s x : List ℕ) (c : Bool) → more n (pick c (give (d + p, length x)) (fail 7) (d + p + n) (drop n s)) ≡ moved d (further d) (more n (pick c (give (p, length x)) (fail 7) (p + n) (drop n s)))
+      inner : (d p : ℕ) (s x : List ℕ) (c : Bool) → more n (pick c (give (d + p, length x)) (failAt 7 (d + p + wellFormed x)) (d + p + n) (drop n s)) ≡ moved d (further d) (more n (pick c (give (p, length x)) (failAt 7 (p + wellFormed x)) (p + n) (drop n s)))
       inner d p s x true = refl
-      inner d p s x false = ap (λ (j : ℕ). bad (because 7 j)) (add-assoc d p n)
+      inner d p s x false = ap (λ (j : ℕ). bad (because 7 j)) (add-assoc d p (wellFormed x))
 
-      go : (d p : ℕ) (s : List ℕ) (b : Bool) → next (cond b (ok (take n s) n) (bad (because 3 (d + p)))) (λ x. pick (good x) (give (d + p, length x)) (fail 7)) (d + p) s ≡ moved d (further d) (next (cond b (ok (take n s) n) (bad (because 3 p))) (λ x. pick (good x) (give (p, length x)) (fail 7)) p s)
+      go : (d p : ℕ) (s : List ℕ) (b : Bool) → next (cond b (ok (take n s) n) (bad (because 3 (d + p)))) (λ x. pick (good x) (give (d + p, length x)) (failAt 7 (d + p + wellFormed x))) (d + p) s ≡ moved d (further d) (next (cond b (ok (take n s) n) (bad (because 3 p))) (λ x. pick (good x) (give (p, length x)) (failAt 7 (p + wellFormed x))) p s)
       go d p s true = inner d p s (take n s) (good (take n s))
       go d p s false = refl
 
@@ -170,8 +174,8 @@ module _ (w : Bool) where
   moves-basic boolean = moves-flag
   moves-basic level = moves-cell w8
   moves-basic natural = moves-unsigned
-  moves-basic (text z) = moves-primitive _ _ (moves-sized (keeps z) _ _ z _ moves-text)
-  moves-basic (blob z) = moves-primitive _ _ (moves-sized (keeps z) _ _ z _ moves-blob)
+  moves-basic (text z) = moves-single _ _ _ (moves-sized (keeps z) _ _ z _ moves-text)
+  moves-basic (blob z) = moves-single _ _ _ (moves-sized (keeps z) _ _ z _ moves-blob)
   moves-basic (optional c k) = moves-basic k
 
 -- ---- a step on what is left of the message, as a read at the place where that starts
@@ -183,6 +187,10 @@ module _ {A : Type 0} (r : Reader A) (g : ℕ → A → A) (h : Moves r g) (s le
 
   pub at-took : (x : A) (n : ℕ) → ok x n ≡ r 0 left → ok (g p x) (p + n) ≡ on r s p
   at-took x n e = ap (λ o. more p (moved p (g p) o)) e ∙ sym on-moved
+
+  -- refused, at its own start or inside
+  pub at-no-in : (e : Refusal) → bad e ≡ r 0 left → bad (because (e .number) (p + e .place)) ≡ on r s p
+  at-no-in e b = ap (λ o. more p (moved p (g p) o)) b ∙ sym on-moved
 
   -- refused at its own start
   pub at-no : (c e : Refusal) → bad e ≡ r 0 left → e .place ≡ 0 → c ≡ because (e .number) p → bad c ≡ on r s p

@@ -1,4 +1,4 @@
--- What a primitive's answer on the rest of a message says of the message: it used the bytes before the rest too, and it refuses at the place where the rest starts.
+-- What a primitive's answer on the rest of a message says of the message: it used the bytes before the rest too, and it refuses at the place where the rest starts; a text may be refused inside.
 use mathlib.Core.Bool.{Bool, cond}
 use mathlib.Core.List.{List, []}
 use Prim.Native.Nat.{_+_, _-_, _<_, _^_, suc, zero, ℕ}
@@ -6,7 +6,7 @@ use lib.Dec.{ltb}
 use lib.ListN.{drop, length, take}
 use mathlib.Core.Option.{Option, none, some}
 use mathlib.Core.Path.{_≡_}
-use Rattle.layout.specs.Reading.{Reader, Res, bad, because, ok}
+use Rattle.layout.specs.Reading.{Reader, Refusal, Res, bad, because, ok}
 use Rattle.layout.specs.Rows.{items, nullableItems}
 use Rattle.layout.specs.Tables.{Span}
 use Rattle.primitives.specs.Parts.{counted}
@@ -16,6 +16,11 @@ use Rattle.body_reading.specs.Walk.{itemCount}
 abbrev pub fromPlace : {A : Type 0} → (ℕ → A → A) → ℕ → Res A → Res A
 fromPlace g p (ok x n) = ok (g p x) (p + n)
 fromPlace g p (bad e) = bad (because (e .number) p)
+
+-- the same of a text or data, whose refusal has a place of its own in the rest
+abbrev pub fromPart : {A : Type 0} → (ℕ → A → A) → ℕ → Res A → Res A
+fromPart g p (ok x n) = ok (g p x) (p + n)
+fromPart g p (bad e) = bad (because (e .number) (p + e .place))
 
 -- the place behind it is a number of the machine
 pub record Fits {A : Type 0} (p : ℕ) (o : Res A) : Type 0 where
@@ -30,9 +35,10 @@ furtherField d none = none
 furtherField d (some none) = some none
 furtherField d (some (some x)) = some (some (further d x))
 
--- the part's start is a number of the machine too
+-- the part's start, or the place where it is refused, is a number of the machine too
 pub record PartFits (p : ℕ) (o : Res Span) : Type 0 where
   pub law : (x : Span) (n : ℕ) → o ≡ ok x n → (p + x .0 < 2 ^ 64) × (p + n < 2 ^ 64)
+  pub inside : (e : Refusal) → o ≡ bad e → p + e .place < 2 ^ 64
 
 pub record StartFits (p : ℕ) (f : Option (Option Span)) : Type 0 where
   pub law : (x : Span) → f ≡ some (some x) → p + x .0 < 2 ^ 64
@@ -40,6 +46,7 @@ pub record StartFits (p : ℕ) (f : Option (Option Span)) : Type 0 where
 pub record FieldFits (p : ℕ) (o : Res (Option (Option Span))) : Type 0 where
   pub behind : (x : Option (Option Span)) (n : ℕ) → o ≡ ok x n → p + n < 2 ^ 64
   pub start : (x : Option (Option Span)) (n : ℕ) → o ≡ ok x n → StartFits p x
+  pub inside : (e : Refusal) → o ≡ bad e → p + e .place < 2 ^ 64
 
 -- the number of items, from a count that is read as one more, with 0 for null: null is none, or refused (w: a whole read)
 abbrev pub itemsOf : Bool → Res ℕ → Res ℕ

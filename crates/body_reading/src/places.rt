@@ -7,7 +7,7 @@ ghost use Rattle.layout.specs.Rows.{blob, text};
 ghost use Rattle.primitives.specs.Answers.{ofFlag, ofNumber};
 ghost use Rattle.primitives.specs.Parts.{ofCount, ofField, ofNullable, ofPart, there};
 ghost use Rattle.body_reading.specs.Walk.{on};
-ghost use Rattle.body_reading.specs.Moved.{FieldFits, Fits, PartFits, StartFits, arrayCount, arrayItems, fromPlace, frontAt, further, furtherField, itemsOf};
+ghost use Rattle.body_reading.specs.Moved.{FieldFits, Fits, PartFits, StartFits, arrayCount, arrayItems, fromPart, fromPlace, frontAt, further, furtherField, itemsOf};
 use crate::tables::less;
 use primitives::Count;
 use primitives::Field;
@@ -115,7 +115,7 @@ pub fn items_at(s: &[u8], p: usize, flexible: bool, whole: bool) -> Number
 // A part of the rest, as a part of the message.
 fn part_moved(part: Part, p: usize) -> Part
     requires { ⌜ PartFits p (ofPart part) ⌝ }
-    ensures { λ r. ⌜ ofPart r ≡ fromPlace further p (ofPart part) ⌝ }
+    ensures { λ r. ⌜ ofPart r ≡ fromPart further p (ofPart part) ⌝ }
 {
     match part {
         Part::Took { start, len, used } => Part::Took {
@@ -123,7 +123,7 @@ fn part_moved(part: Part, p: usize) -> Part
             len,
             used: p + used,
         },
-        Part::Refused(e) => Part::Refused(at(e.number, p)),
+        Part::Refused(e) => Part::Refused(at(e.number, p + e.place)),
     }
 }
 
@@ -173,14 +173,14 @@ fn start_moved(field: Field, p: usize) -> Field
 // A field of the rest, as one of the message.
 fn field_moved(n: Nullable, p: usize) -> Nullable
     requires { ⌜ FieldFits p (ofNullable n) ⌝ }
-    ensures { λ r. ⌜ ofNullable r ≡ fromPlace furtherField p (ofNullable n) ⌝ }
+    ensures { λ r. ⌜ ofNullable r ≡ fromPart furtherField p (ofNullable n) ⌝ }
 {
     match n {
         Nullable::Took { field, used } => Nullable::Took {
             field: start_moved(field, p),
             used: p + used,
         },
-        Nullable::Refused(e) => Nullable::Refused(at(e.number, p)),
+        Nullable::Refused(e) => Nullable::Refused(at(e.number, p + e.place)),
     }
 }
 

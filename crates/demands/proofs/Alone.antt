@@ -7,7 +7,7 @@ use Prim.Native.Nat.{_^_, _≤_, ℕ}
 use native.Mathlib.Omega.{arith}
 use lib.Dec.{eqb, leb, ltb}
 use lib.ListN.{getElem?, length}
-use Rattle.layout.specs.Reading.{Reader, Refusal, Res, bad, because, fail, give, next, ok, pick, placed, primitive, then}
+use Rattle.layout.specs.Reading.{Reader, Refusal, Res, bad, because, fail, give, next, ok, pick, placed, single, then}
 use Rattle.layout.specs.Primitives as Kafka
 use Rattle.layout.specs.Primitives.{Size, Width, admits, cell, checked, holds, int, keeps, lengthOf, limit, refusal, signed, size, unzigzag, zigzag}
 use Rattle.layout.specs.Read.{byPlace, readBasic}
@@ -75,14 +75,14 @@ at-start : (s : List ℕ) (n : ℕ) (e : Refusal) → 1 ≤ n → n ≤ 13 → b
 at-start s n e a b x = subst (Fair (length s)) x (record { least = a; greatest = b; place-in = omega arith; no-need = λ h. refl })
 
 fair-varint : FairRead Kafka.varint
-unfolding Kafka.varint primitive then give fail pick
+unfolding Kafka.varint single then give fail pick
 fair-varint s e h = go (Kafka.unsigned 0 s) refl h
   where
-    at-limit : (n m : ℕ) (c : Bool) → placed 0 (next (ok n m) (λ n. pick c (give (unzigzag n)) (fail 11)) 0 s) ≡ bad e → Fair (length s) e
+    at-limit : (n m : ℕ) (c : Bool) → placed false 0 (next (ok n m) (λ n. pick c (give (unzigzag n)) (fail 11)) 0 s) ≡ bad e → Fair (length s) e
     at-limit n m true h = let z : _≡_ {A = ℕ} 0 1 = cc in absurd (omega arith)
     at-limit n m false h = at-start s 11 e (omega arith) (omega arith) (cc)
 
-    go : (o : Res ℕ) → Kafka.unsigned 0 s ≡ o → placed 0 (next o (λ n. pick (ltb n (2 ^ 32)) (give (unzigzag n)) (fail 11)) 0 s) ≡ bad e → Fair (length s) e
+    go : (o : Res ℕ) → Kafka.unsigned 0 s ≡ o → placed false 0 (next o (λ n. pick (ltb n (2 ^ 32)) (give (unzigzag n)) (fail 11)) 0 s) ≡ bad e → Fair (length s) e
     go (ok n m) d h = at-limit n m (ltb n (2 ^ 32)) h
     go (bad c) d h = let t = fair-unsigned s c d in at-start s (c .number) e (t .least) (t .greatest) (cc)
 
@@ -91,17 +91,17 @@ unfolding readRows
 count-told z s e h = tells-rows false skip (array z 1 end end) 0 [] .law 0 s e (then-bad (checked (admits false z) (refusal z) (lengthOf Kafka.unsigned z)) _ 0 s e h)
 
 fair-count : (z : Size) → FairRead (counted z)
-unfolding counted checked primitive then give fail pick
+unfolding counted checked single then give fail pick
 fair-count z s e h = go (lengthOf Kafka.unsigned z 0 s) refl h
   where
-    at-null : (n m : ℕ) (c : Bool) → placed 0 (next (ok n m) (λ n. pick c (pick true (give 0) (fail 4)) (give n)) 0 s) ≡ bad e → Fair (length s) e
+    at-null : (n m : ℕ) (c : Bool) → placed false 0 (next (ok n m) (λ n. pick c (pick true (give 0) (fail 4)) (give n)) 0 s) ≡ bad e → Fair (length s) e
     at-null n m true h = let z : _≡_ {A = ℕ} 0 1 = cc in absurd (omega arith)
     at-null n m false h = let z : _≡_ {A = ℕ} 0 1 = cc in absurd (omega arith)
 
-    go : (o : Res ℕ) → lengthOf Kafka.unsigned z 0 s ≡ o → placed 0 (next o (λ n. pick (eqb n 0) (pick true (give 0) (fail 4)) (give n)) 0 s) ≡ bad e → Fair (length s) e
+    go : (o : Res ℕ) → lengthOf Kafka.unsigned z 0 s ≡ o → placed false 0 (next o (λ n. pick (eqb n 0) (pick true (give 0) (fail 4)) (give n)) 0 s) ≡ bad e → Fair (length s) e
     go (ok n m) d h = at-null n m (eqb n 0) h
     go (bad c) d h =
-        let x : checked (admits false z) (refusal z) (lengthOf Kafka.unsigned z) 0 s ≡ bad (because (c .number) 0) = ap (λ (o : Res ℕ). placed 0 (next o (λ n. pick (eqb n 0) (pick (admits false z) (give 0) (fail (refusal z))) (give n)) 0 s)) d in
+        let x : checked (admits false z) (refusal z) (lengthOf Kafka.unsigned z) 0 s ≡ bad (because (c .number) 0) = ap (λ (o : Res ℕ). placed false 0 (next o (λ n. pick (eqb n 0) (pick (admits false z) (give 0) (fail (refusal z))) (give n)) 0 s)) d in
         subst (Fair (length s)) (cc) (fair-told s (because (c .number) 0) (count-told z s (because (c .number) 0) x))
 
 fair-alone : {A : Type 0} (r : Reader A) → FairRead r → (s : List ℕ) (e : Refusal) → alone r s ≡ bad e → Fair (length s) e

@@ -12,7 +12,7 @@ use lib.Seq.{drop-append-seam, take-append-seam}
 use borrow.Author.Tests.{eq-eqb}
 use mathlib.Core.Logic.{_≢_}
 use lib.IntN.{negsuc, pos, ℤ}
-use Rattle.layout.specs.Reading.{Reader, fail, give, here, many, ok, pair, pick, placed, primitive, raw, then}
+use Rattle.layout.specs.Reading.{Reader, give, here, many, ok, pair, pick, placed, raw, single, then}
 use Rattle.layout.specs.Utf8.{utf8}
 use Rattle.layout.specs.Primitives.{Maybe, Size, Width, be, bits, bytes, cell, checked, compact, fixed, flag, flagBytes, groups, holds, int, integer, integerBytes, keeps, lengthBytes, lengthOf, limit, nullBytes, plain, shortest, signed, size, sized, sizedBytes, unsigned, unsignedBytes, unzigzag, varint, varlong, w16, w32, w64, w8, zigzag, zigzagBytes}
 use Rattle.layout.specs.Rows.{Basic, BasicValue, Shape, Value, absent, array, blob, boolean, end, field, lacking, level, natural, number, optional, text}
@@ -21,8 +21,9 @@ use Rattle.layout.specs.Answers.{most}
 use Rattle.layout.specs.Write.{basicFault, each, fault, firstOf, or, sizedFault, tooLong, unless, write, writeBasic}
 use Rattle.layout.proofs.Tests.{by-test, lt-false, lt-true, of-eq, of-le, of-lt, of-ne, one-more}
 use Rattle.layout.proofs.Cells.{extend, extend-bytes, pattern, powers}
-use Rattle.layout.proofs.Local.{Local, local-fail, local-give, local-pick, local-primitive, local-then, local-unsigned, raw-ok}
+use Rattle.layout.proofs.Local.{Local, local-fail, local-give, local-pick, local-single, local-then, local-unsigned, raw-ok}
 use Rattle.layout.proofs.Parts.{Eating, Eats, size-some}
+use Rattle.layout.proofs.Steps.{piece}
 
 -- r reads w as x, whatever follows
 pub record Back {A : Type 0} (r : Reader A) (w : List ℕ) (x : A) : Type 0 where
@@ -47,9 +48,9 @@ pub back-here : {A : Type 0} (r : ℕ → Reader A) (w : List ℕ) (x : A) → (
 unfolding here
 back-here r w x h = record { law = λ p t. h p .law p t }
 
-pub back-primitive : {A : Type 0} (r : Reader A) (w : List ℕ) (x : A) → Back r w x → Back (primitive r) w x
-unfolding primitive
-back-primitive r w x a = record { law = λ p t. ap (placed p) (a .law p t) }
+pub back-single : {A : Type 0} (t : Bool) (r : Reader A) (w : List ℕ) (x : A) → Back r w x → Back (single t r) w x
+unfolding single
+back-single t r w x a = record { law = λ p u. ap (placed t p) (a .law p u) }
 
 pub back-raw : (w : List ℕ) → Back (raw (length w)) w w
 back-raw w = record {
@@ -125,7 +126,7 @@ pub back-unsigned : (n : ℕ) → n < 2 ^ 64 → Back unsigned (unsignedBytes n)
 unfolding unsigned unsignedBytes
 back-unsigned n h =
     let e : 0 + n * 1 ≡ n = omega arith in
-    back-primitive _ _ _ (rw e at (back-shortest 9 1 0 n h))
+    back-single _ _ _ _ (rw e at (back-shortest 9 1 0 n h))
 
 pub back-pair : {A B : Type 0} (r : Reader A) (q : Reader B) (v w : List ℕ) (z : A × B) → Back r v (z .0) → Back q w (z .1) → Back (pair r q) (v ++ w) z
 unfolding pair
@@ -193,7 +194,7 @@ back-many r w g h (x ∷ xs) a m =
 
 back-some : (a : Bool) (e : ℕ) (z : Size) (n : ℕ) → n < limit z → Back (checked a e (lengthOf unsigned z)) (lengthBytes z n) (n + 1)
 unfolding checked
-back-some a e z n h = back-primitive _ _ _ (back-last _ _ _ (n + 1) _ (back-length z n h) (back-false _ _ _ _ _ (one-more n) (back-give (n + 1))))
+back-some a e z n h = back-single _ _ _ _ (back-last _ _ _ (n + 1) _ (back-length z n h) (back-false _ _ _ _ _ (one-more n) (back-give (n + 1))))
 
 -- 11 is given where a length of two bytes cannot carry it; every other length carries what a body can hold
 carried : (z : Size) (n : ℕ) → tooLong z n ≡ 0 → n ≤ most → n < limit z
@@ -211,7 +212,7 @@ back-sized : {A : Type 0} (b a : Bool) (e : ℕ) (z : Size) (r : ℕ → Reader 
     (x : Maybe b (List A)) → sizedFault b z g x ≡ 0 → length (sizedBytes b z w x) ≤ most → Back (sized b a e (lengthOf unsigned z) r) (sizedBytes b z w x) x
 unfolding sized sizedBytes sizedFault
 back-sized true a e z r w g k few h none o m =
-    back-last _ _ _ zero _ (unfold checked in (back-primitive _ _ _ (back-last _ _ _ zero _ (back-null z k) (back-true _ _ _ _ _ refl (back-true _ _ _ _ _ refl (back-give zero))))))
+    back-last _ _ _ zero _ (unfold checked in (back-single _ _ _ _ (back-last _ _ _ zero _ (back-null z k) (back-true _ _ _ _ _ refl (back-true _ _ _ _ _ refl (back-give zero))))))
     (back-true _ _ _ _ _ refl (back-give none))
 back-sized true a e z r w g k few h (some xs) o m =
     let f = or-none _ _ o in
@@ -279,7 +280,7 @@ each-long w h [] = omega arith
 each-long w h (x ∷ xs) = let a = h x in let b = each-long w h xs in omega (arith, length-append (w x) (each w xs))
 
 module _ (q : Bool) where
-  back-part : (t : List ℕ → Bool) (b : List ℕ) → unless (t b) 7 ≡ 0 → Back (here (λ p. then (raw (length b)) (λ b. pick (t b) (give b) (fail 7)))) b b
+  back-part : (t : List ℕ → Bool) (b : List ℕ) → unless (t b) 7 ≡ 0 → Back (piece t (λ p b. b) (length b)) b b
   back-part t b h = back-here _ _ _ (λ p. back-last _ _ b b b (back-raw b) (back-true _ _ _ _ _ (unless-none _ 6 h) (back-give b)))
 
   back-basic : (k : Basic) (x : BasicValue (List ℕ) k) → basicFault k x ≡ 0 → length (writeBasic k x) ≤ most → Back (readBasic (byBytes q) k) (writeBasic k x) x
@@ -289,8 +290,8 @@ module _ (q : Bool) where
   back-basic boolean false h m = back-map (int 1) (λ n. ltb 0 n) (bytes 1 0) 0 (back-int 1 0 (lit< tt))
   back-basic level x h m = back-cell w8 x (unfold holds in rw (lt-true x 128 (omega (arith, of-le x 1 (unless-none (leb x 1) 10 h)))))
   back-basic natural x h m = back-unsigned x (small-none _ _ 10 h)
-  back-basic (text z) x h m = back-primitive _ _ _ (back-sized (keeps z) _ _ z _ (λ y. y) _ refl (λ y. omega arith) (λ y u v. back-part utf8 y u) x h m)
-  back-basic (blob z) x h m = back-primitive _ _ _ (back-sized (keeps z) _ _ z _ (λ y. y) (λ y. 0) refl (λ y. omega arith) (λ y u v. back-part (λ b. true) y (unfold unless in refl)) x h m)
+  back-basic (text z) x h m = back-single _ _ _ _ (back-sized (keeps z) _ _ z _ (λ y. y) _ refl (λ y. omega arith) (λ y u v. back-part utf8 y u) x h m)
+  back-basic (blob z) x h m = back-single _ _ _ _ (back-sized (keeps z) _ _ z _ (λ y. y) (λ y. 0) refl (λ y. omega arith) (λ y u v. back-part (λ b. true) y (unfold unless in refl)) x h m)
   back-basic (optional d k) x h m = back-basic k x h m
 
   -- the theorem, for every shape: what is written without fault and within the limit reads back, in a whole read too
@@ -334,7 +335,7 @@ back-varlong z h = back-is _ _ _ _ (there-and-back z) (back-map unsigned unzigza
 pub back-varint : (z : ℤ) → zigzag z < 2 ^ 32 → Back varint (zigzagBytes z) z
 unfolding varint zigzagBytes
 back-varint z h =
-    back-primitive _ _ _ (back-last _ _ _ (zigzag z) _ (back-unsigned (zigzag z) (omega arith)) (back-true _ _ _ _ _ (lt-true (zigzag z) (2 ^ 32) h) (back-is _ _ _ _ (there-and-back z) (back-give (unzigzag (zigzag z))))))
+    back-single _ _ _ _ (back-last _ _ _ (zigzag z) _ (back-unsigned (zigzag z) (omega arith)) (back-true _ _ _ _ _ (lt-true (zigzag z) (2 ^ 32) h) (back-is _ _ _ _ (there-and-back z) (back-give (unzigzag (zigzag z))))))
 
 pub local-varlong : Local varlong
 unfolding varlong
@@ -342,4 +343,4 @@ local-varlong = local-then _ _ local-unsigned (λ n. local-give _)
 
 pub local-varint : Local varint
 unfolding varint
-local-varint = local-primitive _ (local-then _ _ local-unsigned (λ n. local-pick _ _ _ (local-give _) (local-fail _)))
+local-varint = local-single _ _ (local-then _ _ local-unsigned (λ n. local-pick _ _ _ (local-give _) (local-fail _)))

@@ -8,7 +8,7 @@ use native.Mathlib.Omega.{arith}
 use lib.Dec.{leb}
 use lib.ListN.{length}
 use lib.Seq.{length-take-le}
-use Rattle.layout.specs.Reading.{Reader, fail, give, here, pick, raw, then}
+use Rattle.layout.specs.Reading.{Reader, pick}
 use Rattle.layout.specs.Utf8.{utf8}
 use Rattle.layout.specs.Primitives.{Maybe, Null, Size, Width, bits, cell, compact, fixed, holds, keeps, lengthOf, limit, minus, never, plain, size, sized, unsigned, w16, w32}
 use Rattle.layout.specs.Rows.{Basic, BasicValue, Shape, Value, absent, array, blob, boolean, end, field, lacking, level, natural, number, optional, text}
@@ -18,10 +18,11 @@ use Rattle.layout.proofs.Tests.{by-test, lt-false, lt-true, of-lt}
 use Rattle.layout.proofs.Cells.{extend, extend-holds, powers}
 use Rattle.layout.proofs.Strict.{Bytes, bytes-drop, canon-int}
 use Rattle.layout.proofs.Every.{All, EveryMaybe}
-use Rattle.layout.proofs.Gives.{Gives, Ground, gives-fail, gives-give, gives-local, gives-many, gives-pair, gives-part, gives-pick, gives-primitive, gives-sized, gives-then, gives-weak}
+use Rattle.layout.proofs.Gives.{Gives, Ground, gives-fail, gives-give, gives-local, gives-many, gives-pair, gives-part, gives-pick, gives-single, gives-sized, gives-then, gives-weak}
 use Rattle.layout.proofs.Kept.{kept-int}
 use Rattle.layout.proofs.Local.{local-flag, local-unsigned, locals}
 use Rattle.layout.proofs.Parts.{unsigned-small}
+use Rattle.layout.proofs.Steps.{piece}
 
 -- readers of bytes
 abbrev ofBytes : Ground
@@ -119,7 +120,7 @@ Plain (lacking z t i r) = Plain r
 
 module _ (q : Bool) where
   -- n bytes that pass a test have their length, and no fault in that
-  yields-part : (t : List ℕ → Bool) (n : ℕ) → Gives ofBytes (here (λ p. then (raw n) (λ b. pick (t b) (give b) (fail 7)))) (λ b. (length b ≡ n) × (unless (t b) 7 ≡ 0))
+  yields-part : (t : List ℕ → Bool) (n : ℕ) → Gives ofBytes (piece t (λ p b. b) n) (λ b. (length b ≡ n) × (unless (t b) 7 ≡ 0))
   yields-part t n = gives-part t (λ p b. b) n _ (λ p s b m a r h. (ap length (r .is) ∙ length-take-le n s (r .fits), unless-true _ 7 h))
 
   yields-basic : (k : Basic) → PlainBasic k → Gives ofBytes (readBasic (byBytes q) k) (λ x. basicFault k x ≡ 0)
@@ -128,8 +129,8 @@ module _ (q : Bool) where
   yields-basic boolean h = gives-local _ _ local-flag (λ p s x n b e. refl)
   yields-basic level h = absurd h
   yields-basic natural h = gives-local _ _ local-unsigned (λ p s x n b e. unless-true _ 11 (lt-true x (2 ^ 64) (omega (arith, unsigned-small p s x n e .0))))
-  yields-basic (text z) h = gives-primitive _ _ (yields-sized (keeps z) _ _ z _ (λ y. unless (utf8 y) 7) (yields-part utf8))
-  yields-basic (blob z) h = gives-primitive _ _ (yields-sized (keeps z) _ _ z _ (λ y. 0) (λ n. gives-weak _ _ _ (yields-part (λ b. true) n) (λ b k. (k .0, refl))))
+  yields-basic (text z) h = gives-single _ _ _ (yields-sized (keeps z) _ _ z _ (λ y. unless (utf8 y) 7) (yields-part utf8))
+  yields-basic (blob z) h = gives-single _ _ _ (yields-sized (keeps z) _ _ z _ (λ y. 0) (λ n. gives-weak _ _ _ (yields-part (λ b. true) n) (λ b k. (k .0, refl))))
   yields-basic (optional d k) h = yields-basic k h
 
   pub yields-read : (l : Shape) → Plain l → Gives ofBytes (read (byBytes q) l) (λ x. fault l x ≡ 0)

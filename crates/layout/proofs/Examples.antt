@@ -6,7 +6,7 @@ use mathlib.Core.Path.{_≡_, refl}
 use Prim.Native.Nat.{_%_, _-_, _/_, _^_, suc, zero, ℕ}
 use lib.IntN.{ℤ, negsuc, pos}
 use lib.ListN.{getD, replicate}
-use Rattle.layout.specs.Reading.{Refusal, Res, bad, fail, give, here, loop, many, ok, pair, pick, primitive, raw, then}
+use Rattle.layout.specs.Reading.{Refusal, Res, bad, fail, failAt, give, here, loop, many, ok, pair, pick, raw, single, then}
 use Rattle.layout.specs.Utf8.{begins, characters, first, utf8, wellFormed, wellFormedFrom, within}
 use Rattle.layout.specs.Primitives.{bytes, cell, checked, compact, fixed, flag, flagBytes, groups, holds, int, integer, integerBytes, kept, lengthBytes, lengthOf, minus, never, nullBytes, shortest, signed, sized, sizedBytes, unsigned, unsignedBytes, unzigzag, varint, varlong, w16, zigzag, zigzagBytes}
 use Rattle.layout.specs.Rows.{Basic, at, blob, end, field, standing, stands, tagRows, text}
@@ -187,9 +187,9 @@ others =
     (reads (prefixRead tagsAlone (pos 0) (replicate 5 7 ∷ []) (hex 6 0x02_05_00_05_01_41)), no 10 0 2 (replicate 5 7 ∷ [])) ∷
     -- text at the edges of RFC 3629; contents cut short are 3, ill-formed or not; compact bytes of length 0 are 6
     (alone (text (fixed w16 never)) (hex 6 0x0004_F48FBFBF), showed (2 ∷ 4 ∷ []) 6) ∷
-    (alone (text (fixed w16 never)) (hex 6 0x0004_F4908080), stopped 7 0 0) ∷
-    (alone (text (fixed w16 never)) (hex 4 0x0002_C080), stopped 7 0 0) ∷
-    (alone (text (fixed w16 never)) (hex 5 0x0003_EDA080), stopped 7 0 0) ∷
+    (alone (text (fixed w16 never)) (hex 6 0x0004_F4908080), stopped 7 2 0) ∷
+    (alone (text (fixed w16 never)) (hex 4 0x0002_C080), stopped 7 2 0) ∷
+    (alone (text (fixed w16 never)) (hex 5 0x0003_EDA080), stopped 7 2 0) ∷
     (alone (text (fixed w16 never)) (hex 4 0x0004_C080), stopped 3 0 0) ∷
     (alone (blob (compact never)) (hex 1 0x00), stopped 6 0 0) ∷
     -- an empty message; versions outside the range
@@ -205,7 +205,7 @@ abbrev Holds : List Case → Type 0
 Holds cs = map (λ (c : Case). c .0) cs ≡ map (λ (c : Case). c .1) cs
 
 pub examples : Holds table × Holds others
-unfolding then give fail pick here primitive raw pair many loop
+unfolding then give fail failAt pick here single raw pair many loop
     within characters begins first wellFormedFrom wellFormed utf8
     int bytes signed integer integerBytes cell holds flag flagBytes groups unsigned shortest unsignedBytes zigzag unzigzag varlong varint zigzagBytes lengthOf lengthBytes nullBytes checked sized sizedBytes
     at stands standing tagRows readBlob readText readBasic

@@ -7,7 +7,7 @@ use native.Mathlib.Nat.{suc-mul}
 use native.Mathlib.Omega.{arith}
 use lib.Dec.{eqb, ltb}
 use lib.ListN.{drop, length, take}
-use Rattle.layout.specs.Reading.{Reader, fail, give, many, ok, pair, pick, primitive, then}
+use Rattle.layout.specs.Reading.{Reader, fail, give, many, ok, pair, pick, single, then}
 use Rattle.layout.specs.Primitives.{Width, be, cell, cellOf, checked, compact, empty, fixed, groups, int, lengthOf, plain, signed, size, sized, unsigned, w16, w32}
 use Rattle.layout.specs.Rows.{Basic, Shape, Value, absent, array, at, blob, end, field, lacking, natural, number, optional, standing, stands, tagRows}
 use Rattle.layout.specs.Read.{byBytes, read, readBasic}
@@ -140,7 +140,7 @@ uses-1 s x m h = old _ 4 s x m (always-pair _ _ 4 0 (always-cell w32) (always-gi
 -- ---- a small count in four bytes begins with the byte 0, which is null at version 3
 
 zero-is : (p : ℕ) (t : List ℕ) → unsigned p (0 ∷ t) ≡ ok 0 1
-unfolding unsigned primitive groups then pick give
+unfolding unsigned single groups then pick give
 zero-is p t = let h : 1 ≤ length (0 ∷ t) = omega arith in rw (int-ok 1 p (0 ∷ t) h)
 
 small : (s : List ℕ) → 4 ≤ length s → be 0 (take 4 s) < 2 ^ 24 → (t : List ℕ) × (s ≡ 0 ∷ t)

@@ -6,11 +6,11 @@ use mathlib.Core.Path.{_≡_, ap, refl, subst}
 use Prim.Native.Nat.{_+_, _-_, _≤_, suc, zero, ℕ}
 use native.Mathlib.Omega.{arith}
 use lib.ListN.{drop, length, length-drop}
-use Rattle.layout.specs.Reading.{Reader, fail, give, here, many, ok, pair, pick, primitive, raw, then}
+use Rattle.layout.specs.Reading.{Reader, fail, give, many, ok, pair, pick, single, then}
 use Rattle.layout.specs.Primitives.{checked, sized}
 use Rattle.layout.proofs.Every.{All, EveryMaybe}
 use Rattle.layout.proofs.Local.{Local, not-ok}
-use Rattle.layout.proofs.Steps.{Raw, checked-inv, piece-inv, primitive-inv, split}
+use Rattle.layout.proofs.Steps.{Raw, checked-inv, piece, piece-inv, single-inv, split}
 
 -- what is known where a reader stands, and still is behind the bytes that it used
 pub record Ground : Type 1 where
@@ -41,8 +41,8 @@ module _ {G : Ground} where
   gives-pick true r q P h k = h refl
   gives-pick false r q P h k = k refl
 
-  pub gives-primitive : {A : Type 0} (r : Reader A) (P : A → Type 0) → Gives G r P → Gives G (primitive r) P
-  gives-primitive r P g = record { law = λ p s x n a e. g .law p s x n a (primitive-inv r p s x n e) }
+  pub gives-single : {A : Type 0} (t : Bool) (r : Reader A) (P : A → Type 0) → Gives G r P → Gives G (single t r) P
+  gives-single t r P g = record { law = λ p s x n a e. g .law p s x n a (single-inv t r p s x n e) }
 
   pub gives-then : {A B : Type 0} (r : Reader A) (f : A → Reader B) (P : A → Type 0) (Q : B → Type 0) → Gives G r P → ((x : A) → P x → Gives G (f x) Q) → Gives G (then r f) Q
   gives-then r f P Q g h = record {
@@ -64,7 +64,7 @@ module _ {G : Ground} where
 
   -- n bytes that pass the test t, made into a text
   pub gives-part : {X : Type 0} (t : List ℕ → Bool) (make : ℕ → List ℕ → X) (n : ℕ) (P : X → Type 0) → ((p : ℕ) (s b : List ℕ) (m : ℕ) → G .At p s → Raw n s b m → t b ≡ true → P (make p b)) →
-      Gives G (here (λ p. then (raw n) (λ b. pick (t b) (give (make p b)) (fail 7)))) P
+      Gives G (piece t make n) P
   gives-part t make n P h = record { law = λ p s x m a e. let d = piece-inv t make n p s x m e in (omega (arith, d .is-raw .used, d .is-raw .fits), subst P (d .is) (h p s (d .b) m a (d .is-raw) (d .passes))) }
 
   pub gives-sized : {A : Type 0} (b a : Bool) (e : ℕ) (len : Reader ℕ) (r : ℕ → Reader A) (L : ℕ → Type 0) (P : A → Type 0) → Gives G len L → ((n : ℕ) → L n → Gives G (r (n - 1)) P) → Gives G (sized b a e len r) (EveryMaybe P b)

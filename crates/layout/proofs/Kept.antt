@@ -3,11 +3,12 @@ use mathlib.Core.Bool.{Bool, false, true}
 use mathlib.Core.List.{List}
 use Prim.Native.Nat.{_-_, _≤_, suc, zero, ℕ}
 use native.Mathlib.Omega.{arith}
-use Rattle.layout.specs.Reading.{Reader, fail, give, here, many, pair, pick, primitive, raw, then}
+use Rattle.layout.specs.Reading.{Reader, fail, give, here, many, pair, pick, raw, single, then}
 use Rattle.layout.specs.Utf8.{utf8}
 use Rattle.layout.specs.Primitives.{Size, Width, cell, checked, compact, empty, fixed, flag, groups, int, keeps, kept, lengthOf, never, plain, refusal, sized, unsigned, w8}
 use Rattle.layout.specs.Rows.{Basic, Shape, absent, array, blob, boolean, end, field, lacking, level, natural, number, optional, text}
 use Rattle.layout.specs.Read.{Codec, read, readBasic, readBlob, readText}
+use Rattle.layout.proofs.Steps.{piece}
 
 pub record Kept (P : (A : Type 0) → Reader A → Reader A → Type 0) : Type 1 where
   pub on-give : {A : Type 0} (x : A) → P _ (give x) (give x)
@@ -15,7 +16,8 @@ pub record Kept (P : (A : Type 0) → Reader A → Reader A → Type 0) : Type 1
   pub on-raw : (n : ℕ) → P _ (raw n) (raw n)
   pub on-pick : {A : Type 0} (b : Bool) (r r′ q q′ : Reader A) → P _ r r′ → P _ q q′ → P _ (pick b r q) (pick b r′ q′)
   pub on-here : {A : Type 0} (r r′ : ℕ → Reader A) → ((p : ℕ) → P _ (r p) (r′ p)) → P _ (here r) (here r′)
-  pub on-primitive : {A : Type 0} (r r′ : Reader A) → P _ r r′ → P _ (primitive r) (primitive r′)
+  pub on-single : {A : Type 0} (t : Bool) (r r′ : Reader A) → P _ r r′ → P _ (single t r) (single t r′)
+  pub on-part : {X : Type 0} (t : List ℕ → Bool) (make : ℕ → List ℕ → X) (n : ℕ) → P _ (piece t make n) (piece t make n)
   pub on-then : {A B : Type 0} (r r′ : Reader A) (f f′ : A → Reader B) → P _ r r′ → ((x : A) → P _ (f x) (f′ x)) → P _ (then r f) (then r′ f′)
 
 -- the number that refuses null
@@ -57,7 +59,7 @@ module _ {P : (A : Type 0) → Reader A → Reader A → Type 0} (k : Kept P) wh
 
   pub kept-unsigned : P _ unsigned unsigned
   unfolding unsigned
-  kept-unsigned = k .on-primitive _ _ (kept-groups 9 1 0)
+  kept-unsigned = k .on-single _ _ _ (kept-groups 9 1 0)
 
   pub kept-length : (v v′ : Reader ℕ) → P _ v v′ → (z : Size) → P _ (lengthOf v z) (lengthOf v′ z)
   unfolding lengthOf
@@ -69,7 +71,7 @@ module _ {P : (A : Type 0) → Reader A → Reader A → Type 0} (k : Kept P) wh
   unfolding checked
   kept-checked a z len len′ h =
       let e = refusal-known z in
-      k .on-primitive _ _ (k .on-then _ _ _ _ h (λ n. k .on-pick _ _ _ _ _ (k .on-pick _ _ _ _ _ (k .on-give _) (k .on-fail (refusal z) (e .0) (e .1))) (k .on-give _)))
+      k .on-single _ _ _ (k .on-then _ _ _ _ h (λ n. k .on-pick _ _ _ _ _ (k .on-pick _ _ _ _ _ (k .on-give _) (k .on-fail (refusal z) (e .0) (e .1))) (k .on-give _)))
 
   pub kept-sized : {A : Type 0} (b a : Bool) (z : Size) (len len′ : Reader ℕ) (r r′ : ℕ → Reader A) → P _ len len′ → ((n : ℕ) → P _ (r n) (r′ n)) → P _ (sized b a (refusal z) len r) (sized b a (refusal z) len′ r′)
   unfolding sized
@@ -83,17 +85,14 @@ module _ {P : (A : Type 0) → Reader A → Reader A → Type 0} (k : Kept P) wh
     abbrev other : Codec
     other = record { Text = X; make = make; varint = v′; flag = fl′; whole = w }
 
-    kept-part : (t : List ℕ → Bool) (n : ℕ) → P _ (here (λ p. then (raw n) (λ b. pick (t b) (give (make p b)) (fail 7)))) (here (λ p. then (raw n) (λ b. pick (t b) (give (make p b)) (fail 7))))
-    kept-part t n = k .on-here _ _ (λ p. k .on-then _ _ _ _ (k .on-raw n) (λ b. k .on-pick _ _ _ _ _ (k .on-give _) (k .on-fail 7 (omega arith) (omega arith))))
-
     pub kept-basic : (b : Basic) → P _ (readBasic one b) (readBasic other b)
     unfolding readBasic readBlob readText pick
     kept-basic (number b) = kept-cell b
     kept-basic boolean = hf
     kept-basic level = kept-cell w8
     kept-basic natural = hv
-    kept-basic (text z) = k .on-primitive _ _ (kept-sized (keeps z) _ z _ _ _ _ (kept-length v v′ hv z) (kept-part utf8))
-    kept-basic (blob z) = k .on-primitive _ _ (kept-sized (keeps z) _ z _ _ _ _ (kept-length v v′ hv z) (kept-part (λ b. true)))
+    kept-basic (text z) = k .on-single _ _ _ (kept-sized (keeps z) _ z _ _ _ _ (kept-length v v′ hv z) (k .on-part utf8 make))
+    kept-basic (blob z) = k .on-single _ _ _ (kept-sized (keeps z) _ z _ _ _ _ (kept-length v v′ hv z) (k .on-part (λ b. true) make))
     kept-basic (optional d b) = kept-basic b
 
     pub kept-read : (l : Shape) → P _ (read one l) (read other l)

@@ -12,6 +12,7 @@ pub mod Text
 -- an accepted read rests on the bytes it used; a refused one tells a number and a place in the message
 pub mod Local
 pub mod Refusals
+pub mod BadLetter
 -- what is written reads back, zigzag too
 pub mod Back
 -- with shortest varints, what is read is written the same; and what was read has no 7 or 11

@@ -10,8 +10,8 @@ use lib.Seq.{drop-drop, length-take-le}
 use mathlib.Core.Option.{Option, none, some}
 use native.Mathlib.Omega.{arith}
 use lib.Dec.{eqb}
-use Rattle.layout.specs.Reading.{Reader, Res, bad, fail, give, here, loop, many, more, next, ok, pair, pick, placed, primitive, raw, then}
-use Rattle.layout.specs.Utf8.{utf8}
+use Rattle.layout.specs.Reading.{Reader, Res, bad, fail, failAt, give, here, loop, many, more, next, ok, pair, pick, placed, raw, single, then}
+use Rattle.layout.specs.Utf8.{utf8, wellFormed}
 use Rattle.layout.specs.Primitives.{Maybe, Null, Size, admits, admitsNull, checked, compact, empty, fixed, flag, isKept, keeps, kept, minus, never, plain, sized, unsigned, varint}
 use Rattle.layout.specs.Rows.{Basic, BasicValue, Shape, Value, absent, array, blob, boolean, end, field, lacking, level, natural, number, optional, text}
 use Rattle.layout.specs.Read.{Codec, byBytes, byPlace, read, readBasic, readBlob, readText}
@@ -19,7 +19,7 @@ use Rattle.layout.specs.Tables.{Span, absentCells, absentCount, cells, c
 use Rattle.layout.proofs.Every.{listOf}
 use Rattle.layout.proofs.Tests.{of-eq}
 use Rattle.layout.proofs.Local.{not-ok}
-use Rattle.layout.proofs.Steps.{Raw, Under, by-result, given, length-many, raw-inv}
+use Rattle.layout.proofs.Steps.{Raw, Under, by-result, given, length-many, piece, raw-inv}
 
 abbrev pub over : {A B : Type 0} → (A → B) → Res A → Res B
 over g (ok x n) = ok (g x) n
@@ -96,9 +96,9 @@ unfolding pick
 maps-pick true r q r′ q′ g h k = h
 maps-pick false r q r′ q′ g h k = k
 
-pub maps-primitive : {W : Where} {A S : Type 0} (r : Reader S) (r′ : Reader A) (g : A → S) → Maps W r r′ g → Maps W (primitive r) (primitive r′) g
-unfolding primitive
-maps-primitive r r′ g h = record { law = λ p s at. ap (placed p) (h .law p s at) ∙ elim (r′ p s) as (λ o. placed p (over g o) ≡ over g (placed p o)) [ ok x n ↦ refl | bad e ↦ refl ] }
+pub maps-single : {W : Where} {A S : Type 0} (t : Bool) (r : Reader S) (r′ : Reader A) (g : A → S) → Maps W r r′ g → Maps W (single t r) (single t r′) g
+unfolding single
+maps-single t r r′ g h = record { law = λ p s at. ap (placed t p) (h .law p s at) ∙ elim (r′ p s) as (λ o. placed t p (over g o) ≡ over g (placed t p o)) [ ok x n ↦ refl | bad e ↦ refl ] }
 
 pub maps-here : {W : Where} {A S : Type 0} (r : ℕ → Reader S) (r′ : ℕ → Reader A) (g : A → S) → ((p : ℕ) → Maps W (r p) (r′ p) g) → Maps W (here r) (here r′) g
 unfolding here
@@ -161,12 +161,12 @@ module _ (W : Where) {X Y : Type 0} (g : X → Y) (mk : ℕ → List ℕ → X) 
   abbrev pub coarse : Codec
   coarse = record { Text = Y; make = mk′; varint = v; flag = fl; whole = q }
 
-  maps-part : (t : List ℕ → Bool) (n : ℕ) → Maps W (here (λ p. then (raw n) (λ b. pick (t b) (give (mk′ p b)) (fail 7)))) (here (λ p. then (raw n) (λ b. pick (t b) (give (mk p b)) (fail 7)))) g
-  unfolding here then
+  maps-part : (t : List ℕ → Bool) (n : ℕ) → Maps W (piece t mk′ n) (piece t mk n) g
+  unfolding here then failAt
   maps-part t n = record {
     law = λ p s at.
         by-result (raw n p s)
-        (λ b m d. rw (d, same n p s b m at (raw-inv n p s b m d)) (ap (more m) (maps-pick {W = anywhere} (t b) _ _ _ _ g (maps-give g (mk p b)) (maps-fail 7 g) .law (p + m) (drop m s) tt) ∙ sym (over-more g m (pick (t b) (give (mk p b)) (fail 7) (p + m) (drop m s)))))
+        (λ b m d. rw (d, same n p s b m at (raw-inv n p s b m d)) (ap (more m) (maps-pick {W = anywhere} (t b) _ _ _ _ g (maps-give g (mk p b)) (record { law = λ q u at. refl }) .law (p + m) (drop m s) tt) ∙ sym (over-more g m (pick (t b) (give (mk p b)) (failAt 7 (p + wellFormed b)) (p + m) (drop m s)))))
         (λ e d. rw d);
   }
 
@@ -176,8 +176,8 @@ module _ (W : Where) {X Y : Type 0} (g : X → Y) (mk : ℕ → List ℕ → X) 
   maps-basic boolean = maps-same _
   maps-basic level = maps-same _
   maps-basic natural = maps-same _
-  maps-basic (text z) = maps-primitive _ _ _ (maps-sized (keeps z) _ _ _ _ _ g (maps-part utf8))
-  maps-basic (blob z) = maps-primitive _ _ _ (maps-sized (keeps z) _ _ _ _ _ g (maps-part (λ b. true)))
+  maps-basic (text z) = maps-single _ _ _ _ (maps-sized (keeps z) _ _ _ _ _ g (maps-part utf8))
+  maps-basic (blob z) = maps-single _ _ _ _ (maps-sized (keeps z) _ _ _ _ _ g (maps-part (λ b. true)))
   maps-basic (optional d k) = maps-basic k
 
   pub codecs : (l : Shape) → Maps W (read coarse l) (read fine l) (mapValue g l)

@@ -6,12 +6,12 @@ use Prim.Native.Nat.{_+_, _≤_, ℕ}
 use native.Mathlib.Omega.{arith}
 use lib.ListN.{drop, length, length-append, length-drop, take}
 use lib.Seq.{drop-at, length-take-le, take-add, take-at}
-use Rattle.layout.specs.Reading.{Reader, fail, give, here, ok, pick, placed, primitive, raw, then}
+use Rattle.layout.specs.Reading.{Reader, fail, failAt, give, here, ok, pick, placed, raw, single, then}
 use Rattle.layout.specs.Primitives.{checked, flag, unsigned}
 use Rattle.layout.specs.Rows.{Basic, Shape}
 use Rattle.layout.specs.Read.{Codec, read, readBasic}
 use Rattle.layout.proofs.Kept.{Kept, kept-basic, kept-flag, kept-read, kept-unsigned}
-use Rattle.layout.proofs.Steps.{primitive-inv, raw-inv, split}
+use Rattle.layout.proofs.Steps.{piece, raw-inv, single-inv, split}
 pub use Rattle.layout.proofs.Steps.{not-ok, raw-ok}
 
 pub record Same {A : Type 0} (r : Reader A) (p : ℕ) (s : List ℕ) (x : A) (n : ℕ) : Type 0 where
@@ -34,9 +34,9 @@ unfolding pick
 local-pick true r q hr hq = hr
 local-pick false r q hr hq = hq
 
-pub local-primitive : {A : Type 0} (r : Reader A) → Local r → Local (primitive r)
-unfolding primitive
-local-primitive r h = record { law = λ p s x n e. let k = h .law p s x n (primitive-inv r p s x n e) in record { fits = k .fits; same = λ t. ap (placed p) (k .same t) } }
+pub local-single : {A : Type 0} (t : Bool) (r : Reader A) → Local r → Local (single t r)
+unfolding single
+local-single t r h = record { law = λ p s x n e. let k = h .law p s x n (single-inv t r p s x n e) in record { fits = k .fits; same = λ u. ap (placed t p) (k .same u) } }
 
 pub local-raw : (n : ℕ) → Local (raw n)
 local-raw n = record {
@@ -64,6 +64,14 @@ local-then r f hr hf = record {
       };
 }
 
+local-part : {X : Type 0} (t : List ℕ → Bool) (make : ℕ → List ℕ → X) (n : ℕ) → Local (piece t make n)
+unfolding here failAt
+local-part t make n = record {
+  law = λ p s x m e.
+      let l = local-then (raw n) _ (local-raw n) (λ b. local-pick (t b) _ _ (local-give (make p b)) (record { law = λ q u y k h. not-ok h })) .law p s x m e in
+      record { fits = l .fits; same = l .same };
+}
+
 -- every step is local, and so is what is made of steps
 pub locals : Kept (λ A r q. Local r)
 unfolding here
@@ -73,7 +81,8 @@ locals = record {
   on-raw = local-raw;
   on-pick = λ b r r′ q q′ h g. local-pick b r q h g;
   on-here = λ r r′ h. record { law = λ p s x n e. let k = h p .law p s x n e in record { fits = k .fits; same = k .same } };
-  on-primitive = λ r r′ h. local-primitive r h;
+  on-single = λ t r r′ h. local-single t r h;
+  on-part = λ t make n. local-part t make n;
   on-then = λ r r′ f f′ h g. local-then r f h g;
 }
 
@@ -86,7 +95,7 @@ local-flag = kept-flag locals
 -- a length, with whatever number null is refused
 pub local-checked : (a : Bool) (e : ℕ) (len : Reader ℕ) → Local len → Local (checked a e len)
 unfolding checked
-local-checked a e len h = local-primitive _ (local-then _ _ h (λ n. local-pick _ _ _ (local-pick _ _ _ (local-give 0) (local-fail e)) (local-give n)))
+local-checked a e len h = local-single _ _ (local-then _ _ h (λ n. local-pick _ _ _ (local-pick _ _ _ (local-give 0) (local-fail e)) (local-give n)))
 
 module _ (c : Codec) (hv : Local (c .varint)) (hf : Local (c .flag)) where
   pub local-basic : (k : Basic) → Local (readBasic c k)

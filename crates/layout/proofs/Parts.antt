@@ -8,7 +8,7 @@ use native.Mathlib.Omega.{arith}
 use lib.Dec.{ltb}
 use lib.ListN.{length, length-drop}
 use lib.Seq.{length-take-le}
-use Rattle.layout.specs.Reading.{Reader, fail, give, many, ok, pair, pick, primitive, then}
+use Rattle.layout.specs.Reading.{Reader, fail, give, many, ok, pair, pick, single, then}
 use Rattle.layout.specs.Utf8.{utf8}
 use Rattle.layout.specs.Primitives.{Size, Width, cell, checked, compact, fixed, flag, groups, int, keeps, lengthOf, minus, plain, size, sized, unsigned, w16, w32, w64, w8}
 use Rattle.layout.specs.Rows.{Basic, Shape, Value, absent, array, blob, boolean, end, field, lacking, level, natural, number, optional, text}
@@ -17,10 +17,10 @@ use Rattle.layout.specs.Tables.{Span, slice}
 use Rattle.layout.proofs.Tests.{by-test, of-lt}
 use Rattle.layout.proofs.Link.{by-bytes, mapValue, over}
 use Rattle.layout.proofs.Every.{All, Every, EveryBasic, Few}
-use Rattle.layout.proofs.Gives.{Gives, Ground, gives-give, gives-local, gives-many, gives-pair, gives-part, gives-primitive, gives-sized}
+use Rattle.layout.proofs.Gives.{Gives, Ground, gives-give, gives-local, gives-many, gives-pair, gives-part, gives-single, gives-sized}
 use Rattle.layout.proofs.Kept.{kept-cell, kept-length}
 use Rattle.layout.proofs.Local.{local-flag, local-unsigned, locals, not-ok}
-use Rattle.layout.proofs.Steps.{int-inv, many-uncons, primitive-inv, split}
+use Rattle.layout.proofs.Steps.{int-inv, many-uncons, single-inv, split}
 
 -- ---- varints are below 2^64, and take a byte at least
 
@@ -54,7 +54,7 @@ groups-inv (suc k) m a p s x n h =
 pub unsigned-small : (p : ℕ) (s : List ℕ) (x n : ℕ) → unsigned p s ≡ ok x n → (x ≤ minus) × (1 ≤ n)
 unfolding unsigned
 unsigned-small p s x n h =
-    let g = groups-inv 9 1 0 p s x n (primitive-inv _ p s x n h) in
+    let g = groups-inv 9 1 0 p s x n (single-inv _ _ p s x n h) in
     let v = g .small in
     (omega (arith, g .is), g .some-byte)
 
@@ -66,8 +66,8 @@ record Hungry {A : Type 0} (r : Reader A) : Type 0 where
 hungry-then : {A B : Type 0} (r : Reader A) (f : A → Reader B) → Hungry r → Hungry (then r f)
 hungry-then r f h = record { law = λ p s y m e. let d = split r f p s y m e in let k = h .law p s (d .x) (d .n) (d .first) in omega (arith, d .sum) }
 
-hungry-primitive : {A : Type 0} (r : Reader A) → Hungry r → Hungry (primitive r)
-hungry-primitive r h = record { law = λ p s x n e. h .law p s x n (primitive-inv r p s x n e) }
+hungry-single : {A : Type 0} (t : Bool) (r : Reader A) → Hungry r → Hungry (single t r)
+hungry-single t r h = record { law = λ p s x n e. h .law p s x n (single-inv t r p s x n e) }
 
 hungry-int : (k : ℕ) → 1 ≤ k → Hungry (int k)
 hungry-int k h = record { law = λ p s x n e. let u = int-inv k p s x n e .used in omega arith }
@@ -89,8 +89,8 @@ hungry-length plain = hungry-then _ _ hungry-unsigned
 
 hungry-sized : {A : Type 0} (b a : Bool) (e : ℕ) (z : Size) (r : ℕ → Reader A) → Hungry (sized b a e (lengthOf unsigned z) r)
 unfolding sized checked
-hungry-sized true a e z r = hungry-then _ _ (hungry-primitive _ (hungry-then _ _ (hungry-length z)))
-hungry-sized false a e z r = hungry-then _ _ (hungry-primitive _ (hungry-then _ _ (hungry-length z)))
+hungry-sized true a e z r = hungry-then _ _ (hungry-single _ _ (hungry-then _ _ (hungry-length z)))
+hungry-sized false a e z r = hungry-then _ _ (hungry-single _ _ (hungry-then _ _ (hungry-length z)))
 
 -- a field or an array stands in l
 abbrev pub Eats : Shape → Type 0
@@ -107,8 +107,8 @@ module _ (q : Bool) where
   hungry-basic boolean = hungry-then _ _ (hungry-int 1 (omega arith))
   hungry-basic level = hungry-then _ _ (hungry-int 1 (omega arith))
   hungry-basic natural = hungry-unsigned
-  hungry-basic (text z) = hungry-primitive _ (hungry-sized (keeps z) _ _ z _)
-  hungry-basic (blob z) = hungry-primitive _ (hungry-sized (keeps z) _ _ z _)
+  hungry-basic (text z) = hungry-single _ _ (hungry-sized (keeps z) _ _ z _)
+  hungry-basic (blob z) = hungry-single _ _ (hungry-sized (keeps z) _ _ z _)
   hungry-basic (optional d k) = hungry-basic k
 
   hungry-read : (l : Shape) → Eats l → Hungry (read (byPlace q) l)
@@ -156,8 +156,8 @@ module _ (msg : List ℕ) where
     gives-basic boolean = gives-local _ _ local-flag (λ p s x n a e. tt)
     gives-basic level = gives-local _ _ (kept-cell locals w8) (λ p s x n a e. tt)
     gives-basic natural = gives-local _ _ local-unsigned (λ p s x n a e. tt)
-    gives-basic (text z) = gives-primitive _ _ (gives-sized (keeps z) _ _ _ _ _ Part (gives-count z) (λ n h. gives-part utf8 _ (n - 1) Part (λ p s b m a r t. omega (arith, a, r .fits, ap length (r .is), length-take-le (n - 1) s (r .fits)))))
-    gives-basic (blob z) = gives-primitive _ _ (gives-sized (keeps z) _ _ _ _ _ Part (gives-count z) (λ n h. gives-part (λ b. true) _ (n - 1) Part (λ p s b m a r t. omega (arith, a, r .fits, ap length (r .is), length-take-le (n - 1) s (r .fits)))))
+    gives-basic (text z) = gives-single _ _ _ (gives-sized (keeps z) _ _ _ _ _ Part (gives-count z) (λ n h. gives-part utf8 _ (n - 1) Part (λ p s b m a r t. omega (arith, a, r .fits, ap length (r .is), length-take-le (n - 1) s (r .fits)))))
+    gives-basic (blob z) = gives-single _ _ _ (gives-sized (keeps z) _ _ _ _ _ Part (gives-count z) (λ n h. gives-part (λ b. true) _ (n - 1) Part (λ p s b m a r t. omega (arith, a, r .fits, ap length (r .is), length-take-le (n - 1) s (r .fits)))))
     gives-basic (optional d k) = gives-basic k
 
     pub gives-read : (l : Shape) → Eating l → Gives standing (read (byPlace q) l) (Every B Part l)

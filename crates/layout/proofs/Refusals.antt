@@ -1,23 +1,26 @@
 -- What a refused read tells: a number from 1 to 9, a place in the message, and no need. For every shape and message; so 10 is given for room alone.
-use mathlib.Core.Bool.{Bool, false, true}
+use mathlib.Core.Bool.{Bool, _&&_, cond, false, true}
 use mathlib.Core.List.{List, []}
 use mathlib.Core.Path.{_∙_, _≡_, ap, refl, subst, sym}
 use Prim.Native.Nat.{_+_, _≤_, suc, ℕ}
 use native.Mathlib.Omega.{arith}
-use lib.Dec.{leb, ltb}
+use lib.Dec.{eqb, leb, ltb}
 use lib.IntN.{negsuc, pos, ℤ}
 use lib.ListN.{drop, length, length-drop, replicate}
-use Rattle.layout.specs.Reading.{Reader, Refusal, Res, bad, because, fail, give, here, ok, pick, primitive, raw, then}
+use lib.Seq.{length-take-le}
+use Rattle.layout.specs.Reading.{Reader, Refusal, Res, bad, because, fail, failAt, give, here, more, ok, pick, raw, single, then}
 use Rattle.layout.specs.Primitives.{flag, unsigned}
-use Rattle.layout.specs.Rows.{Shape}
-use Rattle.layout.specs.Read.{byPlace, read}
+use Rattle.layout.specs.Utf8.{wellFormed}
+use Rattle.layout.specs.Rows.{Basic, Shape}
+use Rattle.layout.specs.Read.{byPlace, read, readBasic}
 use Rattle.layout.specs.Tables.{Tables, append, readRows}
 use Rattle.layout.specs.Answers.{Message, ended, most, seen, shape}
-use Rattle.layout.proofs.Kept.{Kept, kept-flag, kept-read, kept-unsigned}
+use Rattle.layout.proofs.Kept.{Kept, kept-basic, kept-flag, kept-read, kept-unsigned}
 use Rattle.layout.proofs.Link.{link}
 use Rattle.layout.proofs.Local.{Local, locals, not-ok}
 use Rattle.layout.proofs.Tests.{by-test, of-lt}
-use Rattle.layout.proofs.Steps.{by-result}
+use Rattle.layout.proofs.Steps.{by-result, piece, raw-inv}
+use Rattle.layout.proofs.Text.{front-fits}
 
 -- a refusal of a reader that stands at p before s
 pub record Told (p : ℕ) (s : List ℕ) (e : Refusal) : Type 0 where
@@ -38,13 +41,15 @@ told p s n h g e x =
 same-bad : {A B : Type 0} {c e : Refusal} → _≡_ {A = Res A} (bad c) (bad e) → _≡_ {A = Res B} (bad c) (bad e)
 same-bad {A} {B} {c} {e} h = let x : c ≡ e = cc in ap bad x
 
-tells-primitive : {A : Type 0} (r : Reader A) → Tells r → Tells (primitive r)
-unfolding primitive
-tells-primitive r h = record {
-  law = λ p s e d.
-      by-result (r p s) (λ x n i. not-ok (sym (rw i at d)))
-      (λ c i. let t = h .law p s c i in let g : bad (because (c .number) p) ≡ bad e = rw i at d in let x : because (c .number) p ≡ e = cc in told p s (c .number) (t .least) (t .greatest) e x);
+tells-single : {A : Type 0} (t : Bool) (r : Reader A) → Tells r → Tells (single t r)
+unfolding single
+tells-single {A} t r h = record {
+  law = λ p s e d. by-result (r p s) (λ x n i. not-ok (sym (rw i at d))) (λ c i. kept p s c e (h .law p s c i) (t && eqb (c .number) 7) (rw i at d));
 }
+  where
+    kept : (p : ℕ) (s : List ℕ) (c e : Refusal) → Told p s c → (b : Bool) → _≡_ {A = Res A} (bad (cond b c (because (c .number) p))) (bad e) → Told p s e
+    kept p s c e k true d = let x : c ≡ e = cc in subst (Told p s) x k
+    kept p s c e k false d = let x : because (c .number) p ≡ e = cc in told p s (c .number) (k .least) (k .greatest) e x
 
 tells-then : {A B : Type 0} (r : Reader A) (f : A → Reader B) → Local r → Tells r → ((x : A) → Tells (f x)) → Tells (then r f)
 unfolding then
@@ -58,23 +63,44 @@ tells-then r f l hr hf = record {
       (λ c i. hr .law p s e (i ∙ same-bad (rw i at d)));
 }
 
+tells-raw : (n : ℕ) → Tells (raw n)
+unfolding raw
+tells-raw n = record {
+  law = λ p s e d. by-test (leb n (length s)) (λ t. not-ok (sym (rw t at d))) (λ t. let g : bad (because 3 p) ≡ bad e = rw t at d in told p s 3 (omega arith) (omega arith) e (cc));
+}
+
+-- bytes that fail the test are refused where their longest well-formed beginning ends
+tells-part : {X : Type 0} (t : List ℕ → Bool) (make : ℕ → List ℕ → X) (n : ℕ) → Tells (piece t make n)
+unfolding here then give pick failAt
+tells-part {X} t make n = record {
+  law = λ p s e d.
+      by-result (raw n p s)
+      (λ b m i. let r = raw-inv n p s b m i in inside p s e b m (omega (arith, r .fits, ap length (r .is), length-take-le n s (r .fits))) (t b) (rw i at d))
+      (λ c i. tells-raw n .law p s e (i ∙ same-bad (rw i at d)));
+}
+  where
+    inside : (p : ℕ) (s : List ℕ) (e : Refusal) (b : List ℕ) (m : ℕ) → length b ≤ length s → (c : Bool) → more m (pick c (give (make p b)) (failAt 7 (p + wellFormed b)) (p + m) (drop m s)) ≡ bad e → Told p s e
+    inside p s e b m l true d = not-ok (sym d)
+    inside p s e b m l false d =
+        let x : because 7 (p + wellFormed b) ≡ e = cc in
+        subst (Told p s) x (record { least = omega arith; greatest = omega arith; behind = omega arith; before-end = omega (arith, front-fits b); no-need = refl })
+
 -- readers that are local and tell so: every step keeps it
 telling : Kept (λ A r q. Local r × Tells r)
-unfolding give fail raw here pick
+unfolding give fail here pick
 telling = record {
   on-give = λ x. (locals .on-give x, record { law = λ p s e d. not-ok (sym d) });
   on-fail = λ n h g. (locals .on-fail n h g, record { law = λ p s e d. told p s n h g e (cc) });
-  on-raw = λ n. (
-    locals .on-raw n,
-    record {
-      law = λ p s e d. by-test (leb n (length s)) (λ t. not-ok (sym (rw t at d))) (λ t. let g : bad (because 3 p) ≡ bad e = rw t at d in told p s 3 (omega arith) (omega arith) e (cc));
-    },
-  );
+  on-raw = λ n. (locals .on-raw n, tells-raw n);
   on-pick = λ b r r′ q q′ h g. (locals .on-pick b r r q q (h .0) (g .0), elim b as (λ b. Tells (pick b r q)) [ true ↦ h .1 | false ↦ g .1 ]);
   on-here = λ r r′ h. (locals .on-here r r (λ p. h p .0), record { law = λ p s e d. h p .1 .law p s e d });
-  on-primitive = λ r r′ h. (locals .on-primitive r r (h .0), tells-primitive r (h .1));
+  on-single = λ t r r′ h. (locals .on-single t r r (h .0), tells-single t r (h .1));
+  on-part = λ t make n. (locals .on-part t make n, tells-part t make n);
   on-then = λ r r′ f f′ h g. (locals .on-then r r f f (h .0) (λ x. g x .0), tells-then r f (h .0) (h .1) (λ x. g x .1));
 }
+
+pub tells-basic : (w : Bool) (k : Basic) → Tells (readBasic (byPlace w) k)
+tells-basic w k = kept-basic telling _ w _ unsigned _ flag (kept-unsigned telling) (kept-flag telling) k .1
 
 tells-read : (w : Bool) (l : Shape) → Tells (read (byPlace w) l)
 tells-read w l = kept-read telling _ w _ unsigned _ flag (kept-unsigned telling) (kept-flag telling) l .1

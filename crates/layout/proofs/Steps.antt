@@ -7,8 +7,9 @@ use native.Mathlib.Nat.{add-zero}
 use native.Mathlib.Omega.{arith}
 use lib.Dec.{eqb, leb}
 use lib.ListN.{drop, length, take}
-use Rattle.layout.specs.Reading.{Reader, Refusal, Res, bad, because, fail, give, here, many, more, ok, pair, pick, primitive, raw, then}
+use Rattle.layout.specs.Reading.{Reader, Refusal, Res, bad, because, fail, failAt, give, here, many, more, ok, pair, pick, primitive, raw, single, then}
 use Rattle.layout.specs.Primitives.{be, checked, int}
+use Rattle.layout.specs.Utf8.{wellFormed}
 use Rattle.layout.proofs.Tests.{by-test, le-false, le-true, of-eq, of-le}
 
 -- a refusal is no answer
@@ -134,19 +135,22 @@ many-uncons r i p s ys k e =
 
 -- ---- what an accepted read says of its parts
 
-pub primitive-inv : {A : Type 0} (r : Reader A) (p : ℕ) (s : List ℕ) (x : A) (n : ℕ) → primitive r p s ≡ ok x n → r p s ≡ ok x n
-unfolding primitive
-primitive-inv r p s x n e = by-result (r p s) (λ y m d. d ∙ (rw d at e)) (λ c d. not-ok (rw d at e))
+pub single-inv : {A : Type 0} (t : Bool) (r : Reader A) (p : ℕ) (s : List ℕ) (x : A) (n : ℕ) → single t r p s ≡ ok x n → r p s ≡ ok x n
+unfolding single
+single-inv t r p s x n e = by-result (r p s) (λ y m d. d ∙ (rw d at e)) (λ c d. not-ok (rw d at e))
 
 -- n bytes that pass the test t, and what is made of them
+abbrev pub piece : {X : Type 0} → (List ℕ → Bool) → (ℕ → List ℕ → X) → ℕ → Reader X
+piece t make n = here (λ p. then (raw n) (λ b. pick (t b) (give (make p b)) (failAt 7 (p + wellFormed b))))
+
 pub record Piece {X : Type 0} (t : List ℕ → Bool) (make : ℕ → List ℕ → X) (n p : ℕ) (s : List ℕ) (x : X) (m : ℕ) : Type 0 where
   pub b : List ℕ
   pub is-raw : Raw n s b m
   pub passes : t b ≡ true
   pub is : make p b ≡ x
 
-pub piece-inv : {X : Type 0} (t : List ℕ → Bool) (make : ℕ → List ℕ → X) (n p : ℕ) (s : List ℕ) (x : X) (m : ℕ) → here (λ p. then (raw n) (λ b. pick (t b) (give (make p b)) (fail 7))) p s ≡ ok x m → Piece t make n p s x m
-unfolding here pick give fail
+pub piece-inv : {X : Type 0} (t : List ℕ → Bool) (make : ℕ → List ℕ → X) (n p : ℕ) (s : List ℕ) (x : X) (m : ℕ) → piece t make n p s ≡ ok x m → Piece t make n p s x m
+unfolding here pick give failAt
 piece-inv t make n p s x m e =
     let a = split (raw n) _ p s x m e in
     let r = raw-inv n p s (a .x) (a .n) (a .first) in
@@ -159,7 +163,7 @@ piece-inv t make n p s x m e =
 
 -- a primitive refuses at its own start, and asks for nothing
 pub primitive-place : {A : Type 0} (r : Reader A) (p : ℕ) (s : List ℕ) (e : Refusal) → primitive r p s ≡ bad e → e ≡ because (e .number) p
-unfolding primitive
+unfolding single
 primitive-place r p s e h =
     by-result (r p s) (λ x n d. not-ok (sym (rw d at h)))
     (λ c d. let g : bad (because (c .number) p) ≡ bad e = rw d at h in let x : because (c .number) p ≡ e = cc in sym x ∙ ap (λ (d : Refusal). because (d .number) p) x)
@@ -195,7 +199,7 @@ pair-inv {A} {B} r q p s z m e =
 checked-both : (b : Bool) (e : ℕ) (len : Reader ℕ) (p : ℕ) (s : List ℕ) (x n : ℕ) → checked b e len p s ≡ ok x n → (len p s ≡ ok x n) × (b ≡ false → eqb x 0 ≡ false)
 unfolding checked pick give fail
 checked-both b e len p s x n h =
-    let a = split len _ p s x n (primitive-inv _ p s x n h) in
+    let a = split len _ p s x n (single-inv _ _ p s x n h) in
     go b (a .x) (a .k) (a .n) (a .sum) (a .first) (eqb (a .x) 0) refl (a .second)
   where
     go : (b : Bool) (y k j : ℕ) → n ≡ j + k → len p s ≡ ok y j → (t : Bool) → eqb y 0 ≡ t → pick t (pick b (give 0) (fail e)) (give y) (p + j) (drop j s) ≡ ok x k → (len p s ≡ ok x n) × (b ≡ false → eqb x 0 ≡ false)

@@ -11,7 +11,7 @@ use native.Mathlib.Omega.{arith}
 use lib.Dec.{T, eqb, ltb}
 use lib.ListN.{drop, length, take}
 use lib.Seq.{length-take-le, take-add}
-use Rattle.layout.specs.Reading.{Reader, Res, bad, because, fail, give, here, many, more, ok, pair, pick, placed, primitive, raw, then}
+use Rattle.layout.specs.Reading.{Reader, Res, bad, because, fail, give, here, many, more, ok, pair, pick, placed, single, then}
 use Rattle.layout.specs.Utf8.{utf8}
 use Rattle.layout.specs.Primitives.{Null, Size, Width, admits, admitsNull, be, bits, bytes, cell, checked, compact, empty, fixed, flag, flagBytes, int, isKept, keeps, kept, lengthBytes, lengthOf, never, nullBytes, plain, size, sized, sizedBytes, unsigned, unsignedBytes, w8}
 use Rattle.layout.specs.Rows.{Basic, Shape, Value, absent, array, blob, boolean, end, field, lacking, level, natural, number, optional, text}
@@ -20,7 +20,7 @@ use Rattle.layout.specs.Write.{each, write, writeBasic}
 use Rattle.layout.proofs.Cells.{extend, extend-bytes, powers}
 use Rattle.layout.proofs.Every.{All}
 use Rattle.layout.proofs.Local.{not-ok}
-use Rattle.layout.proofs.Steps.{by-result, checked-inv, checked-some, given, int-inv, length-many, many-none, many-uncons, pair-inv, passed, piece-inv, primitive-inv, split, then-ok}
+use Rattle.layout.proofs.Steps.{by-result, checked-inv, checked-some, given, int-inv, length-many, many-none, many-uncons, pair-inv, passed, piece, piece-inv, single-inv, split, then-ok}
 use Rattle.layout.proofs.Kept.{Kept, kept-read}
 use Rattle.layout.proofs.Tests.{by-test, of-eq}
 
@@ -43,8 +43,8 @@ pub record Canon {A : Type 0} (r : Reader A) (w : A → List ℕ) (Q : A → Typ
 abbrev Any : {A : Type 0} → A → Type 0
 Any x = Unit {0}
 
-canon-primitive : {A : Type 0} (r : Reader A) (w : A → List ℕ) (Q : A → Type 0) → Canon r w Q → Canon (primitive r) w Q
-canon-primitive r w Q c = record { law = λ p s x n b h. c .law p s x n b (primitive-inv r p s x n h) }
+canon-single : {A : Type 0} (t : Bool) (r : Reader A) (w : A → List ℕ) (Q : A → Type 0) → Canon r w Q → Canon (single t r) w Q
+canon-single t r w Q c = record { law = λ p s x n b h. c .law p s x n b (single-inv t r p s x n h) }
 
 -- n bytes and then k, m in all
 took-both : (n k m : ℕ) (s v u : List ℕ) → v ≡ take n s → u ≡ take k (drop n s) → m ≡ n + k → v ++ u ≡ take m s
@@ -191,7 +191,7 @@ module _ (v : Reader ℕ) (fl : Reader Bool) (cv : Canon v unsignedBytes Any) (c
   abbrev pub strictly : Codec
   strictly = record { Text = List ℕ; make = λ p b. b; varint = v; flag = fl; whole = true }
 
-  canon-part : (t : List ℕ → Bool) (n : ℕ) → Canon (here (λ p. then (raw n) (λ b. pick (t b) (give b) (fail 7)))) (λ b. b) (λ b. length b ≡ n)
+  canon-part : (t : List ℕ → Bool) (n : ℕ) → Canon (piece t (λ p b. b) n) (λ b. b) (λ b. length b ≡ n)
   canon-part t n = record {
     law = λ p s x m b h.
         let d = piece-inv t (λ p b. b) n p s x m h in
@@ -205,8 +205,8 @@ module _ (v : Reader ℕ) (fl : Reader Bool) (cv : Canon v unsignedBytes Any) (c
   canon-basic boolean = cf
   canon-basic level = canon-cell w8
   canon-basic natural = cv
-  canon-basic (text z) = canon-primitive _ _ _ (canon-sized (keeps z) _ _ z _ _ (λ y. y) (none-empty z) (length-same v cv z) (canon-part utf8))
-  canon-basic (blob z) = canon-primitive _ _ _ (canon-sized (keeps z) _ _ z _ _ (λ y. y) (none-empty z) (length-same v cv z) (canon-part (λ b. true)))
+  canon-basic (text z) = canon-single _ _ _ _ (canon-sized (keeps z) _ _ z _ _ (λ y. y) (none-empty z) (length-same v cv z) (canon-part utf8))
+  canon-basic (blob z) = canon-single _ _ _ _ (canon-sized (keeps z) _ _ z _ _ (λ y. y) (none-empty z) (length-same v cv z) (canon-part (λ b. true)))
   canon-basic (optional d k) = canon-basic k
 
   pub canon-read : (l : Shape) → Canon (read strictly l) (write l) Any
@@ -234,14 +234,15 @@ refines-then r q f g h k = record {
 }
 
 refining : Kept (λ A r q. Refines r q)
-unfolding here primitive pick
+unfolding here single pick
 refining = record {
   on-give = λ x. refines-same _;
   on-fail = λ e h g. refines-same _;
   on-raw = λ n. refines-same _;
   on-pick = λ b r r′ q q′ h k. elim b as (λ b. Refines (pick b r q) (pick b r′ q′)) [ true ↦ h | false ↦ k ];
   on-here = λ r r′ h. record { law = λ p s x n e. h p .law p s x n e };
-  on-primitive = λ r r′ h. record { law = λ p s x n e. ap (placed p) (h .law p s x n (primitive-inv r p s x n e)) };
+  on-single = λ t r r′ h. record { law = λ p s x n e. ap (placed t p) (h .law p s x n (single-inv t r p s x n e)) };
+  on-part = λ t make n. refines-same _;
   on-then = λ r r′ f f′ h k. refines-then r r′ f f′ h k;
 }
 

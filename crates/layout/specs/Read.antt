@@ -1,11 +1,11 @@
 -- The one reader of all layouts. Assumes nothing.
 use mathlib.Core.Bool.{Bool}
 use mathlib.Core.List.{List}
-use Prim.Native.Nat.{ℕ}
+use Prim.Native.Nat.{ℕ, _+_}
 use lib.ListN.{length}
-use Rattle.layout.specs.Reading.{Reader, then, give, fail, pick, here, primitive, raw, pair, many}
+use Rattle.layout.specs.Reading.{Reader, then, give, failAt, pick, here, primitive, textual, raw, pair, many}
 use Rattle.layout.specs.Primitives.{w8, Size, keeps, admits, refusal, Maybe, cell, flag, unsigned, lengthOf, sized}
-use Rattle.layout.specs.Utf8.{utf8}
+use Rattle.layout.specs.Utf8.{utf8, wellFormed}
 use Rattle.layout.specs.Rows.{Basic, number, boolean, level, natural, text, blob, optional, Shape, end, field, absent, array, lacking, BasicValue, Value}
 
 -- What is not the same in all readings: what a text is, made of its place and its bytes; the varint and the Boolean reader;
@@ -18,12 +18,12 @@ pub record Codec : Type 1 where
   pub whole : Bool
 
 module _ (c : Codec) where
-  -- data, and text, of n bytes
+  -- data, and text, of n bytes; text that is not well-formed is refused where its longest well-formed beginning ends
   unfoldable pub readBlob : ℕ → Reader (c .Text)
   readBlob n = here (λ p. then (raw n) (λ b. give (c .make p b)))
 
   unfoldable pub readText : ℕ → Reader (c .Text)
-  readText n = here (λ p. then (raw n) (λ b. pick (utf8 b) (give (c .make p b)) (fail 7)))
+  readText n = here (λ p. then (raw n) (λ b. pick (utf8 b) (give (c .make p b)) (failAt 7 (p + wellFormed b))))
 
   -- a length or count, and what it is in front of
   abbrev pub counted : {A : Type 0} (z : Size) → (ℕ → Reader A) → Reader (Maybe (keeps z) A)
@@ -34,7 +34,7 @@ module _ (c : Codec) where
   readBasic boolean = c .flag
   readBasic level = cell w8
   readBasic natural = c .varint
-  readBasic (text z) = primitive (counted z readText)
+  readBasic (text z) = textual (counted z readText)
   readBasic (blob z) = primitive (counted z readBlob)
   readBasic (optional d k) = readBasic k
 

@@ -1,10 +1,10 @@
 -- Readers, and why they refuse. A reader is given the place where it stands in the message and the bytes from there on:
 -- the rest that the reader before it left. It gives a value and the number of bytes used, or it refuses. Assumes nothing.
-use mathlib.Core.Bool.{Bool, true, false, cond}
+use mathlib.Core.Bool.{Bool, true, false, cond, _&&_}
 use mathlib.Core.List.{List, [], _∷_}
 use Prim.Native.Nat.{ℕ, zero, suc, _+_}
 use lib.ListN.{length, take, drop}
-use lib.Dec.{leb}
+use lib.Dec.{leb, eqb}
 
 -- a number of docs/RULES.md, a place in the message, and for 10 the rows or bytes needed
 pub record Refusal : Type 0 where
@@ -41,6 +41,10 @@ give x p s = ok x 0
 unfoldable pub fail : {A : Type 0} → ℕ → Reader A
 fail e p s = bad (because e p)
 
+-- refuses at the place q
+unfoldable pub failAt : {A : Type 0} → ℕ → ℕ → Reader A
+failAt e q p s = bad (because e q)
+
 unfoldable pub pick : {A : Type 0} → Bool → Reader A → Reader A → Reader A
 pick true r q = r
 pick false r q = q
@@ -49,13 +53,19 @@ pick false r q = q
 unfoldable pub here : {A : Type 0} → (ℕ → Reader A) → Reader A
 here r p s = r p p s
 
-abbrev pub placed : {A : Type 0} → ℕ → Res A → Res A
-placed p (ok x n) = ok x n
-placed p (bad e) = bad (because (e .number) p)
+-- a primitive: refused at its own start, whatever is wrong in it; a text (t) that is not well-formed (7) at the place found
+abbrev pub placed : {A : Type 0} → Bool → ℕ → Res A → Res A
+placed t p (ok x n) = ok x n
+placed t p (bad e) = bad (cond (t && eqb (e .number) 7) e (because (e .number) p))
 
--- a primitive: whatever it refuses, it refuses at its own start
-unfoldable pub primitive : {A : Type 0} → Reader A → Reader A
-primitive r p s = placed p (r p s)
+unfoldable pub single : {A : Type 0} → Bool → Reader A → Reader A
+single t r p s = placed t p (r p s)
+
+abbrev pub primitive : {A : Type 0} → Reader A → Reader A
+primitive r = single false r
+
+abbrev pub textual : {A : Type 0} → Reader A → Reader A
+textual r = single true r
 
 -- n bytes
 unfoldable pub raw : ℕ → Reader (List ℕ)

@@ -10,7 +10,7 @@ use lib.ListN.{drop, getD, length, length-drop, take}
 use lib.Seq.{drop-drop, getD-drop}
 use lib.IntN.{negsuc, pos, ℤ}
 use borrow.Author.Tests.{eq-eqb, ne-eqb}
-use Rattle.layout.specs.Reading.{Reader, Refusal, Res, bad, because, fail, give, more, ok, pick, placed, primitive, then}
+use Rattle.layout.specs.Reading.{Reader, Refusal, Res, bad, because, fail, give, more, ok, pick, placed, single, then}
 use Rattle.layout.specs.Primitives.{be, cellOf, groups, int, signed, unsigned, unzigzag, varint, varlong, w64}
 use Rattle.primitives.specs.Answers.{ofCarried, ofNarrow, ofNumber, tenthByte}
 use Rattle.primitives.specs.declared.Number.{Number}
@@ -24,22 +24,22 @@ use Rattle.primitives.proofs.Cells.{be-1}
 pub record Along (s : List ℕ) (k weight value p : ℕ) : Type 0 where
   pub whole : weight * 128 ^ k ≡ 2 ^ 63
   pub below : value < weight
-  pub same : unsigned 0 s ≡ placed 0 (more p (groups k weight value p (drop p s)))
+  pub same : unsigned 0 s ≡ placed false 0 (more p (groups k weight value p (drop p s)))
 
 more-none : {A : Type 0} (o : Res A) → o ≡ more 0 o
 more-none (ok x n) = ap (λ (m : ℕ). ok x m) (sym (zero-add n))
 more-none (bad e) = refl
 
 pub start : (s : List ℕ) → Along s 9 1 0 0
-unfolding unsigned primitive
-start s = record { whole = refl; below = omega arith; same = ap (placed 0) (more-none (groups 9 1 0 0 s)) }
+unfolding unsigned single
+start s = record { whole = refl; below = omega arith; same = ap (placed false 0) (more-none (groups 9 1 0 0 s)) }
 
 module _ (s : List ℕ) (weight value p : ℕ) where
   -- the bytes end
   pub short : (k : ℕ) (o : Res ℕ) → o ≡ bad (because 3 0) → Along s k weight value p → length s ≤ p → o ≡ unsigned 0 s
   unfolding groups
-  short zero o e a l = e ∙ sym (a .same ∙ ap (λ o. placed 0 (more p o)) (then-bad (int 1) _ p (drop p s) (because 3 p) (int-bad 1 p (drop p s) (omega (arith, length-drop p s)))))
-  short (suc k) o e a l = e ∙ sym (a .same ∙ ap (λ o. placed 0 (more p o)) (then-bad (int 1) _ p (drop p s) (because 3 p) (int-bad 1 p (drop p s) (omega (arith, length-drop p s)))))
+  short zero o e a l = e ∙ sym (a .same ∙ ap (λ o. placed false 0 (more p o)) (then-bad (int 1) _ p (drop p s) (because 3 p) (int-bad 1 p (drop p s) (omega (arith, length-drop p s)))))
+  short (suc k) o e a l = e ∙ sym (a .same ∙ ap (λ o. placed false 0 (more p o)) (then-bad (int 1) _ p (drop p s) (because 3 p) (int-bad 1 p (drop p s) (omega (arith, length-drop p s)))))
 
   -- the weight times 128 is a weight
   pub narrow : (k : ℕ) → 0 < k → Along s k weight value p → weight * 128 ≤ 2 ^ 63
@@ -90,8 +90,8 @@ module _ (s : List ℕ) (weight value p : ℕ) where
     high-tenth l = byte _ ∙ rw (lt-false b 128 l)
 
     -- what is left is o, so what was asked is o behind p bytes
-    asked : (o : Res ℕ) (k : ℕ) → Along s k weight value p → groups k weight value p (drop p s) ≡ o → placed 0 (more p o) ≡ unsigned 0 s
-    asked o k a h = sym (a .same ∙ ap (λ (u : Res ℕ). placed 0 (more p u)) h)
+    asked : (o : Res ℕ) (k : ℕ) → Along s k weight value p → groups k weight value p (drop p s) ≡ o → placed false 0 (more p o) ≡ unsigned 0 s
+    asked o k a h = sym (a .same ∙ ap (λ (u : Res ℕ). placed false 0 (more p u)) h)
 
     pub ended : (k : ℕ) → 0 < k → Along s k weight value p → b < 128 → ok (value + b * weight) (p + 1) ≡ unsigned 0 s
     ended zero h a l = absurd (omega arith)
@@ -111,7 +111,7 @@ module _ (s : List ℕ) (weight value p : ℕ) where
         record {
           whole = mul-assoc weight 128 (128 ^ k) ∙ ap (λ (n : ℕ). weight * n) (sym (pow-succ' 128 k)) ∙ a .whole;
           below = omega (arith, a .below);
-          same = sym (asked (more 1 (groups k (weight * 128) (value + b % 128 * weight) (p + 1) (drop (p + 1) s))) (suc k) a (high-group k l)) ∙ ap (placed 0) (more-more p 1 (groups k (weight * 128) (value + b % 128 * weight) (p + 1) (drop (p + 1) s)));
+          same = sym (asked (more 1 (groups k (weight * 128) (value + b % 128 * weight) (p + 1) (drop (p + 1) s))) (suc k) a (high-group k l)) ∙ ap (placed false 0) (more-more p 1 (groups k (weight * 128) (value + b % 128 * weight) (p + 1) (drop (p + 1) s)));
         }
 
     pub again : (k : ℕ) → 0 < k → Along s k weight value p → 128 ≤ b → (j : ℕ) → j ≡ k - 1 → Along s j (weight * 128) (value + b % 128 * weight) (p + 1)
@@ -171,17 +171,17 @@ module _ (s : List ℕ) where
 
   -- the same, narrowed first
   narrowed : (v k : ℕ) → ok v k ≡ unsigned 0 s → over unzigzag (cond (ltb v (2 ^ 32)) (ok v k) (bad (because 11 0))) ≡ varint 0 s
-  unfolding varint primitive pick give fail
-  narrowed v k e = go (ltb v (2 ^ 32)) ∙ sym (ap (placed 0) (then-ok unsigned _ 0 s v k (sym e)))
+  unfolding varint single pick give fail
+  narrowed v k e = go (ltb v (2 ^ 32)) ∙ sym (ap (placed false 0) (then-ok unsigned _ 0 s v k (sym e)))
     where
-      go : (b : Bool) → over unzigzag (cond b (ok v k) (bad (because 11 0))) ≡ placed 0 (more k (pick b (give (unzigzag v)) (fail 11) (0 + k) (drop k s)))
+      go : (b : Bool) → over unzigzag (cond b (ok v k) (bad (because 11 0))) ≡ placed false 0 (more k (pick b (give (unzigzag v)) (fail 11) (0 + k) (drop k s)))
       go true = ap (λ (m : ℕ). ok (unzigzag v) m) (sym (add-zero k))
       go false = refl
 
   pub varint-is : (n m : Number) → ofNumber n ≡ unsigned 0 s → ofNumber m ≡ ofNarrow n → ofCarried m ≡ varint 0 s
-  unfolding varint primitive
+  unfolding varint single
   varint-is n m e d = of-carried m ∙ ap (over unzigzag) d ∙ go n e
     where
       go : (n : Number) → ofNumber n ≡ unsigned 0 s → over unzigzag (ofNarrow n) ≡ varint 0 s
       go (Number.Took v k) e = narrowed v k e
-      go (Number.Refused c) e = ap bad (placed-0 _ (sym e)) ∙ sym (ap (placed 0) (then-bad unsigned _ 0 s _ (sym e)))
+      go (Number.Refused c) e = ap bad (placed-0 _ (sym e)) ∙ sym (ap (placed false 0) (then-bad unsigned _ 0 s _ (sym e)))

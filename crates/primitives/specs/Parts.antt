@@ -47,11 +47,11 @@ counted z = checked true 4 (lengthOf unsigned z)
 
 -- data of n bytes at place u, behind their length at place p, where they are refused
 unfoldable pub dataBehind : ℕ → ℕ → ℕ → List ℕ → Res Span
-dataBehind p u n s = placed p (more u (readBlob (byPlace false) n u (drop u s)))
+dataBehind p u n s = placed false p (more u (readBlob (byPlace false) n u (drop u s)))
 
--- text of n bytes behind the u bytes of its length, likewise
+-- text of n bytes behind the u bytes of its length, likewise, but for text that is not well-formed, which is refused there
 unfoldable pub textBehind : ℕ → ℕ → List ℕ → Res Span
-textBehind u n s = placed 0 (more u (readText (byPlace false) n u (drop u s)))
+textBehind u n s = placed true 0 (more u (readText (byPlace false) n u (drop u s)))
 
 abbrev pub somePart : Res Span → Res (Option Span)
 somePart (ok x n) = ok (some x) n

@@ -25,14 +25,15 @@ fn characters(s: &[u8], used: usize, count: u64) -> Part
         return Part::Refused(at(BYTES_END, 0));
     }
     let len = count as usize;
-    if utf8::is_text(&left[..len]) {
+    let good = utf8::well_formed(&left[..len]);
+    if good == len {
         return Part::Took {
             start: used,
             len,
             used: used + len,
         };
     }
-    Part::Refused(at(NOT_TEXT, 0))
+    Part::Refused(at(NOT_TEXT, used + good))
 }
 
 // A text behind the length that was read, where null is refused with a number.

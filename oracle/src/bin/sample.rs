@@ -1,10 +1,12 @@
 //! sample SEED CASES EXPECTED
+//! sample letters CASES EXPECTED
 //!
-//! A list to store and replay without Rust: the worked examples, then of every kind of case and answer a few.
+//! A list to store and replay without Rust: the worked examples, then of every kind of case and answer a few; or some texts
+//! that are not well-formed.
 use oracle::case::Case;
 use oracle::judge::{judge, Verdict};
 use oracle::line::{Lent, Word};
-use oracle::make::{self, examples, rng::Rng};
+use oracle::make::{self, examples, letters, rng::Rng};
 use oracle::model::write::Own;
 use std::collections::BTreeMap;
 use std::io::Result;
@@ -23,13 +25,14 @@ type Lines = (Vec<u8>, Vec<u8>);
 fn main() -> ExitCode {
     let words: Vec<String> = std::env::args().skip(1).collect();
     let asked = match &words[..] {
+        [list, cases, expected] if list == "letters" => Some(run_letters(cases, expected)),
         [seed, cases, expected] => seed.parse().ok().map(|seed| run(seed, cases, expected)),
         _ => None,
     };
     match asked {
         Some(Ok(())) => ExitCode::SUCCESS,
         Some(Err(e)) => failed(&e.to_string()),
-        None => failed("sample SEED CASES EXPECTED"),
+        None => failed("sample SEED CASES EXPECTED, or sample letters CASES EXPECTED"),
     }
 }
 
@@ -51,10 +54,27 @@ fn run(seed: u64, cases: &str, expected: &str) -> Result<()> {
             }
         }
     }
-    std::fs::write(cases, taken.iter().flat_map(|pair| pair.0.clone()).collect::<Vec<u8>>())?;
-    std::fs::write(expected, taken.iter().flat_map(|pair| pair.1.clone()).collect::<Vec<u8>>())?;
+    write(&taken, cases, expected)?;
     println!("{} inputs of {} kinds, {size} bytes", taken.len(), kinds.len());
     Ok(())
+}
+
+fn run_letters(cases: &str, expected: &str) -> Result<()> {
+    let taken: Vec<Lines> = letters::stored().iter().map(|case| lines(case, &agreed(case))).collect();
+    write(&taken, cases, expected)?;
+    println!("{} inputs, {} bytes", taken.len(), taken.iter().map(length).sum::<usize>());
+    Ok(())
+}
+
+fn write(taken: &[Lines], cases: &str, expected: &str) -> Result<()> {
+    std::fs::write(cases, taken.iter().flat_map(|pair| pair.0.clone()).collect::<Vec<u8>>())?;
+    std::fs::write(expected, taken.iter().flat_map(|pair| pair.1.clone()).collect::<Vec<u8>>())
+}
+
+fn agreed(case: &Case) -> Verdict<'_> {
+    let verdict = judge(case);
+    assert_eq!(verdict.complaint, None, "a list to store rests on no disagreement");
+    verdict
 }
 
 fn length(pair: &Lines) -> usize {
@@ -82,8 +102,7 @@ fn chosen(seed: u64) -> BTreeMap<String, Kind> {
     let mut kinds: BTreeMap<String, Kind> = BTreeMap::new();
     let sections = make::short(seed, INPUTS).expect("room for the fixed part");
     for case in sections.iter().flat_map(|section| section.part(0, 1)) {
-        let verdict = judge(&case);
-        assert_eq!(verdict.complaint, None, "a list to store rests on no disagreement");
+        let verdict = agreed(&case);
         let kind = kinds.entry(kind(&case, &verdict)).or_default();
         let place = if kind.kept.len() < ROUNDS { kind.kept.len() } else { rng.below(kind.seen + 1) };
         kind.seen += 1;

@@ -99,9 +99,9 @@ fn further() -> Vec<(Case, &'static str)> {
     let rows = [18, 0, 4, -1, 3, -1, 0, -1, 1, 0, 3, -1, 1, 4, 4, -1];
     let mut list = vec![
         (read("string", "0004 f48fbfbf"), "ok 6 2:f48fbfbf"),
-        (read("string", "0004 f4908080"), "no 7 0 0"),
-        (read("string", "0002 c080"), "no 7 0 0"),
-        (read("string", "0003 eda080"), "no 7 0 0"),
+        (read("string", "0004 f4908080"), "no 7 2 0"),
+        (read("string", "0002 c080"), "no 7 2 0"),
+        (read("string", "0003 eda080"), "no 7 2 0"),
         (read("string", "0004 c080"), "no 3 0 0"),
         (Case::WellFormed(bytes("61f48fbfbf")), "ok 5"),
         (Case::WellFormed(bytes("61eda080")), "ok 1"),
@@ -154,7 +154,7 @@ fn metadata() -> Vec<(Case, &'static str)> {
         (read(4, [0; 5], "00000000 ffffffff 0000 ffffffff ffffffff"), "ok 18 0 0 10:- -1 0 - - - - - kept"),
         (read(3, [0; 5], "00000009 00000000 fffe"), "no 4 8 0 - - - - - kept"),
         (read(0, [0; 5], "00000000 7fffffff"), "no 3 8 0 - - - - - kept"),
-        (read(0, [0; 5], "00000001 00000001 0002 c080"), "no 7 8 0 - - - - - kept"),
+        (read(0, [0; 5], "00000001 00000001 0002 c080"), "no 7 10 0 - - - - - kept"),
         // A rack that is absent, and one that is empty.
         (
             read(0, [7, 0, 0, 0, 0], "00000001 00000001 0000 00000000 00000000"),
@@ -248,7 +248,7 @@ fn fetch() -> Vec<(Case, &'static str)> {
         (read(0, [0; 3], "7fffffff"), "no 3 4 0 - - - kept"),
         (read(0, [3, 0, 0], "00000001 0000 ffffffff"), "ok 10 absent 1 6,0,0 - - kept"),
         (read(0, [0; 3], "00000001 ffff ffffffff"), "no 4 4 0 - - - kept"),
-        (read(0, [0; 3], "00000001 0002 c080 00000000"), "no 7 4 0 - - - kept"),
+        (read(0, [0; 3], "00000001 0002 c080 00000000"), "no 7 6 0 - - - kept"),
         (read(0, [0; 3], "00000001 0002 c0"), "no 3 4 0 - - - kept"),
         (
             read(0, [3, 7, 0], &zero("00000002 abcd ef")),

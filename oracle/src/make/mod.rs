@@ -6,6 +6,7 @@ pub mod ends;
 pub mod examples;
 pub mod exhaustive;
 pub mod fetch;
+pub mod letters;
 pub mod metadata;
 pub mod others;
 pub mod reads;
@@ -124,6 +125,7 @@ fn fixed(seed: u64) -> Vec<Section> {
         fetch::requests::ends(),
         fetch::requests::pairs(),
         fetch::requests::sizes(),
+        letters::section(),
     ]
 }
 

@@ -1,5 +1,5 @@
 //! Primitives, read: docs/RULES.md, section 2. A reader holds the message and a place.
-use super::text::is_text;
+use super::text::{is_text, well_formed};
 use super::Shown;
 use crate::line::{Refusal, Word};
 use crate::token::{of_word, put_tags, Token};
@@ -125,10 +125,10 @@ impl<'a> Reader<'a> {
         }
     }
 
+    /// Text that is not well-formed is refused where its longest well-formed beginning ends.
     pub fn text(&mut self, form: Form, null: Null) -> Read<Word<'a>> {
-        let start = self.at;
         match self.bytes(form, null)? {
-            Word::Part(_, contents) if !is_text(contents) => Err(Refusal::at(7, start)),
+            Word::Part(start, contents) if !is_text(contents) => Err(Refusal::at(7, start + well_formed(contents))),
             word => Ok(word),
         }
     }

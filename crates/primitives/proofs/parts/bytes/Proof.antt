@@ -11,7 +11,7 @@ use Rattle.primitives.proofs.parts.bytes.Tie as tie
 
 returns : tie.Need-returns
 unfolding readBasic counted dataBehind lengthOf
-returns c = c .data-of .ensures ∙ shown-is (lengthOf unsigned (fixed w32 never)) _ (readBlob (byPlace false)) false 4 (c .before .length32 .result) (c .before .length32 .ensures) _ refl
+returns c = c .data-of .ensures ∙ shown-is false (lengthOf unsigned (fixed w32 never)) _ (readBlob (byPlace false)) false 4 (c .before .length32 .result) (c .before .length32 .ensures) _ refl
 
 pub bytes-spec : {M : Type 1} → statement M
 bytes-spec = tie.close (tie.spec

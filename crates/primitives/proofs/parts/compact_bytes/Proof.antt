@@ -11,7 +11,7 @@ use Rattle.primitives.proofs.parts.compact_bytes.Tie as tie
 
 returns : tie.Need-returns
 unfolding readBasic counted dataBehind lengthOf
-returns c = c .data-of .ensures ∙ shown-is (lengthOf unsigned (compact never)) _ (readBlob (byPlace false)) false 6 (c .before .compact-length .result) (c .before .compact-length .ensures) _ refl
+returns c = c .data-of .ensures ∙ shown-is false (lengthOf unsigned (compact never)) _ (readBlob (byPlace false)) false 6 (c .before .compact-length .result) (c .before .compact-length .ensures) _ refl
 
 pub compact-bytes-spec : {M : Type 1} → statement M
 compact-bytes-spec = tie.close (tie.spec

@@ -11,7 +11,7 @@ use Rattle.primitives.proofs.texts.compact_nullable_string.Tie as tie
 
 returns : tie.Need-returns
 unfolding readBasic counted textBehind lengthOf
-returns c = c .nullable-text .ensures ∙ ap there (kept-is (lengthOf unsigned (compact kept)) _ (readText (byPlace false)) true 6 (c .before .compact-length .result) (c .before .compact-length .ensures) _ refl)
+returns c = c .nullable-text .ensures ∙ ap there (kept-is true (lengthOf unsigned (compact kept)) _ (readText (byPlace false)) true 6 (c .before .compact-length .result) (c .before .compact-length .ensures) _ refl)
 
 pub compact-nullable-string-spec : {M : Type 1} → statement M
 compact-nullable-string-spec =

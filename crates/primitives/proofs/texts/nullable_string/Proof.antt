@@ -11,7 +11,7 @@ use Rattle.primitives.proofs.texts.nullable_string.Tie as tie
 
 returns : tie.Need-returns
 unfolding readBasic counted textBehind lengthOf
-returns c = c .nullable-text .ensures ∙ ap there (kept-is (lengthOf unsigned (fixed w16 kept)) _ (readText (byPlace false)) true 4 (c .before .length16 .result) (c .before .length16 .ensures) _ refl)
+returns c = c .nullable-text .ensures ∙ ap there (kept-is true (lengthOf unsigned (fixed w16 kept)) _ (readText (byPlace false)) true 4 (c .before .length16 .result) (c .before .length16 .ensures) _ refl)
 
 pub nullable-string-spec : {M : Type 1} → statement M
 nullable-string-spec = tie.close (tie.spec

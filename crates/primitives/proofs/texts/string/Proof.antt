@@ -1,5 +1,5 @@
 -- The length is read, and what stands behind it is what the field shows.
-use mathlib.Core.Bool.{false}
+use mathlib.Core.Bool.{false, true}
 use mathlib.Core.Path.{_∙_, refl}
 use Rattle.layout.specs.Primitives.{fixed, lengthOf, never, unsigned, w16}
 use Rattle.layout.specs.Read.{byPlace, readBasic, readText}
@@ -11,7 +11,7 @@ use Rattle.primitives.proofs.texts.string.Tie as tie
 
 returns : tie.Need-returns
 unfolding readBasic counted textBehind lengthOf
-returns c = c .text-of .ensures ∙ shown-is (lengthOf unsigned (fixed w16 never)) _ (readText (byPlace false)) false 4 (c .before .length16 .result) (c .before .length16 .ensures) _ refl
+returns c = c .text-of .ensures ∙ shown-is true (lengthOf unsigned (fixed w16 never)) _ (readText (byPlace false)) false 4 (c .before .length16 .result) (c .before .length16 .ensures) _ refl
 
 pub string-spec : {M : Type 1} → statement M
 string-spec = tie.close (tie.spec
