@@ -1,4 +1,4 @@
-/* Befrolan: bodies of Kafka messages, read from bytes and written to bytes. The C interface.
+/* Befrolan: bodies of Kafka messages, and the frames that they come in, read from bytes and written to bytes. The C interface.
  *
  * The functions hold no state, allocate nothing and keep no pointer. Every answer is numbers, in a struct where there are
  * several. Each function's promise, which the prover has checked, stands at its definition, in the crates whose names begin
@@ -10,19 +10,21 @@
  * Versions. A version is a number of 64 bits, and every one that the message does not have is BEFROLAN_NO_VERSION: those
  * below 0, and those far above, whatever their low bits are.
  *
+ * Headers. The number of a frame's header is treated as a version is: every one that there is not is BEFROLAN_NO_VERSION.
+ *
  * Cells. Numbers in tables and answers are cells: 64 bits, two's complement. They are declared as int64_t.
  *
  * Tables. A table is a slice of cells, row behind row; a cut row at its end is no row. Rows are filled from the
  * front. Cells behind the rows filled, and bytes behind those written, stay as they were. After a refusal
  * everything that was lent is as it was.
  *
- * Texts and data are parts: a start and a length, counted in bytes from the front of the message that was read,
+ * Texts and data are parts: a start and a length, counted in bytes from the front of the message or frame that was read,
  * or of `lent`, the bytes beside what is written.
  *
  * What the caller owes. A call judges every number that it is given, and every byte and cell; it cannot judge these, and
  * promises nothing where one of them is not so:
  * - A slice whose length is not 0 has a pointer that is not null, to at least as many elements as the length says.
- * - `body` and `rows`, which have no length beside them, point to as many cells as their declaration says.
+ * - `body`, `row` and `rows`, where they have no length beside them, point to as many cells as their declaration says.
  * - A pointer to cells is aligned for them, as one to an int64_t is.
  * - What is lent to be written to (its pointer is not to const) overlaps nothing else that is lent to the same call. What is
  *   only read may overlap.
@@ -39,13 +41,14 @@
 extern "C" {
 #endif
 
-/* ---- refusals: `number` of an answer. The place is a byte of the message; on writing it is always 0. */
+/* ---- refusals: `number` of an answer. The place is a byte of the message or of the frame; on writing it is always 0. */
 
 enum {
     BEFROLAN_ACCEPTED = 0,
-    BEFROLAN_NO_VERSION = 1,        /* the message has no such version; there is no such kind. Place 0 */
-    BEFROLAN_TOO_LONG = 2,          /* message, or what would be written, over BEFROLAN_MOST bytes. Place 0 */
-    BEFROLAN_BYTES_END = 3,         /* the bytes end inside a primitive. Its start */
+    BEFROLAN_NO_VERSION = 1,        /* the message has no such version; there is no such kind, or no such header. Place 0 */
+    BEFROLAN_TOO_LONG = 2,          /* message, or what would be written, over BEFROLAN_MOST bytes; of a frame to write, header
+                                       and body together. Place 0 */
+    BEFROLAN_BYTES_END = 3,         /* the bytes end inside a primitive. Its start. Or before the end of a frame. Place 0 */
     BEFROLAN_LENGTH_BELOW = 4,      /* a length or count below what is allowed. Its start */
     BEFROLAN_VARINT_CONTINUES = 5,  /* the tenth byte of a varint continues. The varint's start */
     BEFROLAN_LENGTH_ZERO = 6,       /* length 0 in a compact string or compact bytes. Its start */
@@ -57,11 +60,12 @@ enum {
     BEFROLAN_TOO_WIDE = 11,         /* a number that its type cannot hold; a STRING or NULLABLE_STRING to write over 32,767
                                        bytes; an isolation level other than 0 or 1. Its start */
     BEFROLAN_GROUP_TOO_WIDE = 12,   /* kept from the ported code; no call gives it */
-    BEFROLAN_BAD_TABLES = 13        /* counts that do not add up to the rows, or below -1, or -1 where there is neither
+    BEFROLAN_BAD_TABLES = 13,       /* counts that do not add up to the rows, or below -1, or -1 where there is neither
                                        null nor unset; a part outside the lent bytes. Place 0 */
+    BEFROLAN_BAD_SIZE = 14          /* the size before a frame is below 0 or over BEFROLAN_MOST. Place 0 */
 };
 
-/* No message and no written body has more bytes. */
+/* No message and no written body has more bytes, and no frame more without its size: with it, 4 more. */
 #define BEFROLAN_MOST 1048576
 
 /* ---- rows of tables */
@@ -70,7 +74,7 @@ enum {
  * (BEFROLAN_UNSET where the version has none, or where they are unset). */
 #define BEFROLAN_ITEM_CELLS 4
 
-/* A tag: the tag, and start and length of its data. */
+/* A tag, of a body or of a frame's header: the tag, and start and length of its data. */
 #define BEFROLAN_TAG_CELLS 3
 
 /* The number of tags where they are absent in the version or unset. */
@@ -116,7 +120,8 @@ enum {
 
 /* Kinds. Of a throttle time, a controller, a request's text, a request's auto-creation, and a Fetch request's max bytes
  * and isolation level: absent in the version or unset, or there. Of a rack and a cluster: absent in the version, BEFROLAN_NULL (1), or there.
- * To a writer any kind but 0 means that it is there. */
+ * Of the client's name in a frame: BEFROLAN_NULL, or there. To a writer any kind but 0 means that it is there; of the client's
+ * name in a frame, any but 0 and BEFROLAN_NULL. */
 #define BEFROLAN_ABSENT 0
 #define BEFROLAN_PRESENT 2
 
@@ -190,6 +195,77 @@ typedef struct {
     int64_t version_kind, version_start, version_length;
     int64_t tags;
 } befrolan_request_numbers;
+
+/* Of a frame with a request header that was read. `used` is the whole frame, its size and the 4 bytes of that: there the next
+ * one starts. Starts, also those of the tags' data, count from the frame's first byte. */
+typedef struct {
+    int64_t number, place, need, used;
+    int64_t request_api_key, request_api_version, correlation_id;
+    int64_t client_id_kind;          /* of the client's name: BEFROLAN_NULL or BEFROLAN_PRESENT */
+    int64_t client_id_start, client_id_length;
+    int64_t tags;                    /* how many; BEFROLAN_UNSET where the header has none */
+    int64_t body_start, body_length; /* what is left of the frame after the header; the body is not read */
+} befrolan_request_frame_numbers;
+
+/* Of a frame with a response header that was read. */
+typedef struct {
+    int64_t number, place, need, used;
+    int64_t correlation_id;
+    int64_t tags;
+    int64_t body_start, body_length;
+} befrolan_response_frame_numbers;
+
+/* ---- frames
+ *
+ * A frame is a size of 4 bytes, a header, and a body. The size counts header and body, and not itself. Request headers are 1
+ * (API key, version, correlation number, client's name) and 2 (the same, and tagged fields). Response headers are 0
+ * (correlation number) and 1 (the same, and tagged fields). Every other number is BEFROLAN_NO_VERSION: request header 0 too. */
+
+/* The number of the header that a request has, and of the one that a response has, by API key and version. Requests: 2 for key
+ * 18 (ApiVersions) from version 3 on, else 1. Responses: 0, also those of ApiVersions, at every version. Neither call refuses. */
+int64_t befrolan_request_number(int64_t key, int64_t version);
+int64_t befrolan_response_number(int64_t key, int64_t version);
+
+/* Reads the frame at the front of the message, with the header of that number. The body is shown as a part of the message, for
+ * the call that reads it. Bytes after the frame are the next frame's and have no part in the reply, however many there are: there
+ * is no BEFROLAN_TOO_LONG. The header is read from the frame's bytes alone: where it goes on after them it is
+ * BEFROLAN_BYTES_END, although more bytes are lent.
+ * The order of refusals: BEFROLAN_NO_VERSION; BEFROLAN_BYTES_END at 0, for fewer than 4 bytes; BEFROLAN_BAD_SIZE;
+ * BEFROLAN_BYTES_END at 0, for fewer bytes than the size says; what the header is refused for, at 4 or after;
+ * BEFROLAN_NO_ROOM, with the rows of tags in `need`. More bytes help with BEFROLAN_BYTES_END at 0, and with no other. */
+befrolan_request_frame_numbers befrolan_read_request_frame(
+    const uint8_t *msg, size_t msg_len,
+    int64_t header,
+    int64_t *tags, size_t tags_len);
+
+befrolan_response_frame_numbers befrolan_read_response_frame(
+    const uint8_t *msg, size_t msg_len,
+    int64_t header,
+    int64_t *tags, size_t tags_len);
+
+/* Writes a frame: the size, the header of that number, and `body` as it is: it is not looked into, and may be empty. `row` of a
+ * request: API key, version, correlation number; kind, start and length of the client's name; number of tags. `row` of a
+ * response: correlation number, number of tags. The client's name is a part of `lent`; of kind 0, unset, and of kind
+ * BEFROLAN_NULL it is written as null. The number of tags is BEFROLAN_UNSET for unset ones, which are written as none. Tags that
+ * are lent with a header that has none are checked (BEFROLAN_BAD_TABLES) and left out.
+ * The order of refusals: BEFROLAN_NO_VERSION; BEFROLAN_BAD_TABLES; BEFROLAN_TOO_WIDE and BEFROLAN_NOT_TEXT, in the order of
+ * the fields; BEFROLAN_TOO_LONG, for header and body together over BEFROLAN_MOST; BEFROLAN_NO_ROOM, with the bytes of the whole
+ * frame in `need`. Up to BEFROLAN_MOST + 4 bytes may be written. */
+befrolan_numbers befrolan_write_request_frame(
+    uint8_t *out, size_t out_len,
+    int64_t header,
+    const uint8_t *lent, size_t lent_len,
+    const int64_t row[7],
+    const int64_t *tags, size_t tags_len,
+    const uint8_t *body, size_t body_len);
+
+befrolan_numbers befrolan_write_response_frame(
+    uint8_t *out, size_t out_len,
+    int64_t header,
+    const uint8_t *lent, size_t lent_len,
+    const int64_t row[2],
+    const int64_t *tags, size_t tags_len,
+    const uint8_t *body, size_t body_len);
 
 /* ---- ApiVersions, versions 0 to 3 */
 

@@ -1,6 +1,6 @@
 /* Reads the ApiVersions response that a broker sent at version 0, agrees on versions, and writes the response back. Then
- * asks for a topic at the version agreed on, reads the answer, and finds the host of the node that leads its partition.
- * Last, asks for what stands in that partition, and shows its records.
+ * asks for a topic at the version agreed on, in a frame as it is sent, reads the answer out of the frame that it comes in, and
+ * finds the host of the node that leads its partition. Last, asks for what stands in that partition, and shows its records.
  * Exits with 1 where anything is not as it should be.
  *
  *     tools/staticlib
@@ -14,13 +14,19 @@
 /* error 0, three items: ApiVersions (18), versions 0 to 3; Metadata (3), versions 0 and 1; Fetch (1), versions 0 to 4 */
 static const uint8_t offer[24] = {0, 0, 0, 0, 0, 3, 0, 18, 0, 0, 0, 3, 0, 3, 0, 0, 0, 1, 0, 1, 0, 0, 0, 4};
 
-/* at version 1: broker 1 with host "h", port 9092 and no rack; controller 1; topic "t", whose partition 0 is led by
- * broker 1, with replicas 1 and 2, and null for those in sync */
-static const uint8_t answer[61] = {
+/* A frame: 65 bytes follow its size; correlation number 9. Then at version 1: broker 1 with host "h", port 9092 and no rack;
+ * controller 1; topic "t", whose partition 0 is led by broker 1, with replicas 1 and 2, and null for those in sync. After the
+ * frame the first byte of the next one. */
+static const uint8_t received[70] = {
+    0, 0, 0, 65, 0, 0, 0, 9,
     0, 0, 0, 1, 0, 0, 0, 1, 0, 1, 'h', 0, 0, 0x23, 0x84, 0xff, 0xff,
     0, 0, 0, 1,
     0, 0, 0, 1, 0, 0, 0, 1, 't', 0, 0, 0, 0, 1,
-    0, 0, 0, 0, 0, 0, 0, 0, 0, 1, 0, 0, 0, 2, 0, 0, 0, 1, 0, 0, 0, 2, 0xff, 0xff, 0xff, 0xff};
+    0, 0, 0, 0, 0, 0, 0, 0, 0, 1, 0, 0, 0, 2, 0, 0, 0, 1, 0, 0, 0, 2, 0xff, 0xff, 0xff, 0xff,
+    0};
+
+/* API keys */
+enum { METADATA = 3 };
 
 /* at version 4: no throttle time; topic "t", whose partition 0 has no error, the offsets 9 and 9, no aborted transactions,
  * and three bytes of records */
@@ -68,6 +74,18 @@ static int agreed(int64_t rows[9])
     return 1;
 }
 
+/* the frame that is sent: a header with correlation number 9 and the client's name "gw", which has no tags, and the body */
+static int framed(int64_t version, const uint8_t *body, size_t length)
+{
+    static const uint8_t name[2] = {'g', 'w'};
+    static const uint8_t frame[23] = {0, 0, 0, 19, 0, 3, 0, 1, 0, 0, 0, 9, 0, 2, 'g', 'w', 0, 0, 0, 1, 0, 1, 't'};
+    int64_t row[7] = {METADATA, version, 9, BEFROLAN_PRESENT, 0, 2, BEFROLAN_UNSET};
+    uint8_t out[64];
+    befrolan_numbers w = befrolan_write_request_frame(out, sizeof out, befrolan_request_number(METADATA, version), name,
+                                                      sizeof name, row, NULL, 0, body, length);
+    return w.number == BEFROLAN_ACCEPTED && w.used == 23 && memcmp(out, frame, sizeof frame) == 0;
+}
+
 /* asks for the topic "t"; auto-creation is unset */
 static int asked(int64_t version)
 {
@@ -76,16 +94,36 @@ static int asked(int64_t version)
     uint8_t out[64];
     befrolan_numbers w = befrolan_write_metadata_request(out, sizeof out, version, name, sizeof name, body, topics,
                                                          BEFROLAN_NAME_CELLS);
-    return w.number == BEFROLAN_ACCEPTED && w.used == 7 && memcmp(out, request, sizeof request) == 0;
+    return w.number == BEFROLAN_ACCEPTED && w.used == 7 && memcmp(out, request, sizeof request) == 0
+           && framed(version, out, (size_t)w.used);
+}
+
+/* Where the body of the answer is, in what was received. More bytes are to be received where number and place are
+ * BEFROLAN_BYTES_END and 0; the next frame starts at `used`. */
+static const uint8_t *unframed(int64_t version, size_t *length)
+{
+    int64_t header = befrolan_response_number(METADATA, version);
+    befrolan_response_frame_numbers r = befrolan_read_response_frame(received, 68, header, NULL, 0);
+    if (r.number != BEFROLAN_BYTES_END || r.place != 0)
+        return NULL;
+    r = befrolan_read_response_frame(received, sizeof received, header, NULL, 0);
+    if (r.number != BEFROLAN_ACCEPTED || r.used != 69 || r.correlation_id != 9 || r.tags != BEFROLAN_UNSET)
+        return NULL;
+    *length = (size_t)r.body_length;
+    return received + r.body_start;
 }
 
 /* finds the host of the node that leads the first partition */
 static int found(int64_t version)
 {
+    size_t length;
+    const uint8_t *answer = unframed(version, &length);
+    if (answer == NULL || length != 61)
+        return 0;
     int64_t brokers[4 * BEFROLAN_BROKER_CELLS], topics[4 * BEFROLAN_TOPIC_CELLS];
     int64_t partitions[4 * BEFROLAN_PARTITION_CELLS], replicas[8], in_sync[8];
 
-    befrolan_metadata_numbers r = befrolan_read_metadata_response(answer, sizeof answer, version, brokers, 28, topics, 20,
+    befrolan_metadata_numbers r = befrolan_read_metadata_response(answer, length, version, brokers, 28, topics, 20,
                                                                   partitions, 20, replicas, 8, in_sync, 8);
     if (r.number != BEFROLAN_ACCEPTED) {
         printf("refused with %lld at %lld\n", (long long)r.number, (long long)r.place);
@@ -93,7 +131,7 @@ static int found(int64_t version)
     }
     if (r.used != 61 || r.brokers != 1 || r.topics != 1 || topics[4] != 1 || partitions[2] != 1)
         return 0;
-    befrolan_host_numbers h = befrolan_find_host(answer, sizeof answer, version, partitions[2]);
+    befrolan_host_numbers h = befrolan_find_host(answer, length, version, partitions[2]);
     if (h.number != BEFROLAN_ACCEPTED || h.found != 1 || h.start != 10 || h.length != 1)
         return 0;
     printf("partition %lld is led by node %lld, at %.*s\n", (long long)partitions[1], (long long)partitions[2],

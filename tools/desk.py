@@ -1,4 +1,4 @@
-"""The night desk's command: asks the proved calls what a body says, through the C interface, and puts Kafka's names to the numbers.
+"""The night desk's command: asks the proved calls what a body or a frame says, through the C interface, and puts Kafka's names to the numbers.
 
 Everything that is judged, is judged there. Here arguments are parsed, the bytes of the body found, names looked up, and lines laid out."""
 import itertools
@@ -14,19 +14,27 @@ USAGE = """usage: ./befrolan read MESSAGE VERSION [FILE]   a body, read from its
        ./befrolan whole VERSION [FILE]          an ApiVersions answer, read whole, as a gateway must
        ./befrolan agree VERSION [FILE]          the same, and the versions to speak with that broker
        ./befrolan host NODE VERSION [FILE]      the host of a node, from a Metadata answer
+       ./befrolan frame request NUMBER [FILE]   a frame with request header NUMBER, 1 or 2: the header, and where the body is
+       ./befrolan frame response NUMBER [FILE]  the same with response header NUMBER, 0 or 1
        ./befrolan night                         the night that cannot come: bodies of every layout at every version
 MESSAGE: api-versions, api-versions-request, metadata or fetch.
 FILE, or standard input: a body without frame and header, as raw bytes or plain hex, which is two digits for each byte with
 spaces, lines and # comments between bytes. Input with a byte that no text has is raw bytes; text must be plain hex.
-Options: --json; --raw or --hex, which say what the input is; --body where a body is taken for a frame.
+Options: --json; --raw or --hex, which say what the input is; --frame where the body is in a frame, with the header that the
+message has at that version, or --frame=NUMBER with another one; --body where a body is taken for a frame.
 Exit: 0 accepted, 1 refused or not found, 2 not asked in this way, no body given, or not built."""
 MEANS = dict(line.split(" ", 1) for line in (ROOT / "data/refusals.txt").read_text().splitlines())
 # For each body that can be read: its call (docs/ANSWERS.md), and how many cells a row of each table has.
 READS = {"api-versions": ("response_read", (4, 3)), "api-versions-request": ("request_read", (3,)),
          "metadata": ("metadata_read", (7, 5, 5, 1, 1)), "fetch": ("fetch_read", (3, 7, 2))}
 WHOLE = ("response_read_whole", (4, 3))
+FRAMES = {"request": ("request_frame_read", (3,)), "response": ("response_frame_read", (3,))}
+# Each message's API key, and which kind of header it has.
+SENT = {"api-versions": (18, "response"), "api-versions-request": (18, "request"), "metadata": (3, "response"), "fetch": (1, "response")}
 # The most bytes that a message may have. One byte more is enough of it to be refused for its size.
 MOST = 1048576
+# The bytes of a frame's size, which it does not count; what is after the longest frame has no part in it.
+SIZE = 4
 # No row takes more cells than this for each of its bytes in the body: a tag with no data has 3 cells for 2 bytes, and others have fewer.
 CELLS_A_BYTE = 2
 APIS = {18: "ApiVersions", 3: "Metadata", 1: "Fetch"}
@@ -35,6 +43,7 @@ ABSENT = object()
 # These are about the message as a whole, and not about a byte of it.
 PLACELESS = (1, 2)
 NOT_TEXT = 7
+BYTES_END, BAD_SIZE = 3, 14
 # The first two bytes of characters in more bytes than they need.
 OVERLONG = {(0xE0, second) for second in range(0x80, 0xA0)} | {(0xF0, second) for second in range(0x80, 0x90)}
 SOME_MINUTES = "the first time this takes some minutes"
@@ -56,7 +65,7 @@ def answering(cases):
     need_kit()
     if not (ROOT / "target/c/answers").exists():
         print(f"befrolan: proving and building the library; {SOME_MINUTES}", file=sys.stderr)
-    words = [ROOT / "tools/answers", str(CELLS_A_BYTE * (MOST + 1))]
+    words = [ROOT / "tools/answers", str(CELLS_A_BYTE * (MOST + SIZE))]
     made = subprocess.run(words, input="".join(case + "\n" for case in cases), stdout=subprocess.PIPE, text=True)
     answers = [line.split() for line in made.stdout.splitlines()]
     if made.returncode != 0 or len(answers) != len(cases):
@@ -67,17 +76,17 @@ def answering(cases):
     return answers
 
 
-def wording(read, version, body):
+def wording(read, version, body, most=MOST + 1):
     """The case of a read, with room for the rows of any body of this length."""
     call, widths = read
-    body = body[:MOST + 1]
+    body = body[:most]
     rooms = [str(CELLS_A_BYTE * len(body))] * len(widths)
     return " ".join([call, str(version), *rooms, body.hex() or "-"])
 
 
-def ask(read, version, body):
+def ask(read, version, body, most=MOST + 1):
     """The words of a refusal, or of the own row with `ok` and the bytes used in front; and the rows of each table."""
-    *words, _ = answering([wording(read, version, body)])[0]
+    *words, _ = answering([wording(read, version, body, most)])[0]
     first = len(words) - len(read[1])
     return words[:first], [rows(table, width) for table, width in zip(words[first:], read[1])]
 
@@ -209,19 +218,30 @@ def metadata(body, words, tables):
                            partitions=partitions(count)) for error, start, length, internal, count in cut(every_topic, int(topics))])
 
 
-def fetch(version, body, words, tables):
+def fetch(version, start_of_body, body, words, tables):
     throttle, topics = words
     every_topic, every_partition, pairs = tables
 
     def partitions(count):
         return [row(partition_index=index, error_code=error, high_watermark=high, last_stable_offset=stable if version >= 4 else ABSENT,
                     aborted_transactions=[row(producer_id=p, first_offset=o) for p, o in cut(pairs, few)] if version >= 4 else ABSENT,
-                    records=row(start=start, length=length))
+                    records=row(start=start_of_body + start, length=length))
                 for index, error, high, stable, few, start, length in cut(every_partition, count)]
 
     return row(throttle_time_ms=number(throttle),
                responses=[row(topic=text_at(body, start, length), partitions=partitions(count))
                           for start, length, count in cut(every_topic, int(topics))])
+
+
+def request_header(frame, words, tables):
+    key, version, correlation, client, own = words
+    return row(request_api_key=int(key), request_api_version=int(version), correlation_id=int(correlation), client_id=text(client),
+               _tagged_fields=tagged(frame, tables[0], int(own)))
+
+
+def response_header(frame, words, tables):
+    correlation, own = words
+    return row(correlation_id=int(correlation), _tagged_fields=tagged(frame, tables[0], int(own)))
 
 
 def agreed(items):
@@ -277,29 +297,53 @@ def around(body, place):
 # ---- answers
 
 
-def refusal(words):
+class Given:
+    """A body, by itself or in a frame with its header; places that are shown count from the first byte of what was given. `after` is how many bytes follow the frame."""
+
+    def __init__(self, every_byte, start=0, header=None, after=0):
+        self.every_byte, self.start, self.header, self.after = every_byte, start, header, after
+        self.body = every_byte[start:]
+
+    def in_json(self):
+        """What is said of a frame, beside what is said of the body."""
+        if self.header is None:
+            return {}
+        return {"header": self.header, "body_part": row(start=self.start, length=len(self.body)), "after_frame": self.after}
+
+    def in_lines(self):
+        if self.header is None:
+            return []
+        return [f"header: {shown(self.header)}", *self.body_in_lines()]
+
+    def body_in_lines(self):
+        rest = [f"after the frame: {self.after} bytes, which have no part in this"] if self.after else []
+        return [f"body: {len(self.body)} bytes at {self.start}", *rest]
+
+
+def refusal(words, start):
     _, n, place, need = words
-    return row(number=int(n), means=MEANS[n], place=int(place), need=int(need))
+    return row(number=int(n), means=MEANS[n], place=int(place) + (0 if int(n) in PLACELESS else start), need=int(need))
 
 
-def refused(what, body, words, json_wanted, asking, more=()):
+def refused(what, given, words, json_wanted, asking, more=()):
     """`asking` makes the case of the same question about another body."""
-    said = refusal(words)
+    said = refusal(words, given.start)
     if said["number"] == NOT_TEXT:
-        said["letter"] = wrong_letter(body, said["place"], asking)
+        said["letter"] = wrong_letter(given, int(words[2]), asking)
     if json_wanted:
-        print(json.dumps(row(message=what, accepted=False, refusal=said)))
+        print(json.dumps(row(message=what, accepted=False, **given.in_json(), refusal=said)))
         return 1
-    n, place = said["number"], said["place"]
+    n, place, bytes_given = said["number"], said["place"], given.every_byte
     print(f"{what}: refused with {n}: {said['means']}")
     if n in PLACELESS:
         print("place 0: it is about the message as a whole")
     else:
-        print(f"place {place} of {len(body)} bytes" + (", which is the end of the message" if place == len(body) else ""))
-        print("\n".join(around(body, place)))
+        print(f"place {place} of {len(bytes_given)} bytes" + (", which is the end of the message" if place == len(bytes_given) else ""))
+        print("\n".join(around(bytes_given, place)))
     if "letter" in said:
         print(said["letter"])
-    print("\n".join(more), end="\n" if more else "")
+    for line in [*given.in_lines(), *more]:
+        print(line)
     return 1
 
 
@@ -310,8 +354,9 @@ def of_text(body, place, count, asking):
     return 1 + sum(words[:3] == ["no", str(NOT_TEXT), str(place + k)] for k, words in enumerate(answers, 1))
 
 
-def wrong_letter(body, place, asking):
+def wrong_letter(given, place, asking):
     """What is wrong in a text from the place on: docs/RULES.md, section 3."""
+    body = given.body
     first = body[place]
     if first in range(0x80, 0xC0):
         return f"{first:02x} starts no sequence: it can only go on one"
@@ -324,7 +369,7 @@ def wrong_letter(body, place, asking):
     for k in range(1, there):
         byte = body[place + k]
         if byte not in range(0x80, 0xC0):
-            return f"{first:02x} starts a sequence of {length} bytes, and a continuation is missing: {byte:02x} at place {place + k} is none"
+            return f"{first:02x} starts a sequence of {length} bytes, and a continuation is missing: {byte:02x} at place {given.start + place + k} is none"
         if k == 1 and (first, byte) in OVERLONG:
             return f"{first:02x} {byte:02x} starts an overlong form: the character has fewer bytes"
         if k == 1 and first == 0xED and byte >= 0xA0:
@@ -346,47 +391,92 @@ def other_layouts(body, version, words):
     return ["Read whole, it is a body of no version: was it cut, or is it another message?"]
 
 
-def accepted(what, body, used, said, json_wanted):
+def accepted(what, given, used, said, json_wanted):
     if json_wanted:
-        print(json.dumps(row(message=what, accepted=True, used=used, body=said)))
-    else:
-        print(f"{what}: accepted, {used} of {len(body)} bytes used")
-        print("\n".join(lines(said)))
+        print(json.dumps(row(message=what, accepted=True, **given.in_json(), used=used, body=said)))
+        return 0
+    print(f"{what}: accepted, {used} of {len(given.body)} bytes used")
+    for line in [*given.in_lines(), *lines(said)]:
+        print(line)
     return 0
 
 
-def read(message, version, body, json_wanted, whole=False):
+def read(message, version, given, json_wanted, whole=False):
     what = f"{message} version {version}" + (", read whole" if whole else "")
     call = WHOLE if whole else READS[message]
-    words, tables = ask(call, version, body)
+    words, tables = ask(call, version, given.body)
     if words[0] != "ok":
         hint = message == "api-versions" and not json_wanted
-        return refused(what, body, words, json_wanted, lambda other: wording(call, version, other), other_layouts(body, version, words) if hint else ())
-    says = {"api-versions": response, "api-versions-request": request, "metadata": metadata}.get(message, lambda *given: fetch(version, *given))
-    return accepted(what, body, int(words[1]), says(body, words[2:], tables), json_wanted)
+        return refused(what, given, words, json_wanted, lambda other: wording(call, version, other), other_layouts(given.body, version, words) if hint else ())
+    says = {"api-versions": response, "api-versions-request": request, "metadata": metadata}.get(message, lambda *rest: fetch(version, given.start, *rest))
+    return accepted(what, given, int(words[1]), says(given.body, words[2:], tables), json_wanted)
 
 
-def agree(version, body, json_wanted):
+def agree(version, given, json_wanted):
     what = f"api-versions version {version}, read whole"
-    words, tables = ask(WHOLE, version, body)
+    words, tables = ask(WHOLE, version, given.body)
     if words[0] != "ok":
-        return refused(what, body, words, json_wanted, lambda other: wording(WHOLE, version, other), () if json_wanted else other_layouts(body, version, words))
+        return refused(what, given, words, json_wanted, lambda other: wording(WHOLE, version, other), () if json_wanted else other_layouts(given.body, version, words))
     _, used, _, items, *_ = words
-    return accepted(what, body, int(used), row(agreed=agreed(cut(tables[0], int(items)))), json_wanted)
+    return accepted(what, given, int(used), row(agreed=agreed(cut(tables[0], int(items)))), json_wanted)
 
 
-def host(node, version, body, json_wanted):
+def host(node, version, given, json_wanted):
     what = f"host of node {node}, metadata version {version}"
     asking = lambda other: f"host {version} {node} {other[:MOST + 1].hex() or '-'}"
-    words = answering([asking(body)])[0]
+    words = answering([asking(given.body)])[0]
     if words[0] != "ok":
-        return refused(what, body, words, json_wanted, asking)
+        return refused(what, given, words, json_wanted, asking)
     found = None if words[1] == "none" else text(words[1])
     if json_wanted:
-        print(json.dumps(row(message=what, accepted=True, host=found)))
+        print(json.dumps(row(message=what, accepted=True, **given.in_json(), host=found)))
     else:
         print(f"{what}: " + ("no broker has it" if found is None else shown(found)))
     return 1 if found is None else 0
+
+
+# ---- frames
+
+
+def size_in_words(data):
+    """What the first bytes say of the frame, and what is there. A header ends with its frame."""
+    if len(data) < SIZE:
+        return f"A frame begins with its size, which has {SIZE} bytes."
+    return f"The size of the frame is {int.from_bytes(data[:SIZE], 'big', signed=True):,}, and {len(data) - SIZE:,} bytes follow it."
+
+
+def open_frame(side, number, data, json_wanted):
+    """The body in the frame at the front of the bytes, with the header read; or the exit, where the frame was refused and that was said."""
+    words, tables = ask(FRAMES[side], number, data, MOST + SIZE)
+    if words[0] != "ok":
+        asking = lambda other: wording(FRAMES[side], number, other, MOST + SIZE)
+        more = [size_in_words(data)] if int(words[1]) in (BYTES_END, BAD_SIZE) else ()
+        return refused(f"{side} frame, header {number}", Given(data), words, json_wanted, asking, more)
+    _, used, *own, body = words
+    start, _, _ = body.partition(":")
+    frame = data[: int(used)]
+    says = request_header if side == "request" else response_header
+    return Given(frame, int(start), says(frame, own, tables), len(data) - len(frame))
+
+
+def frame(side, number, data, json_wanted):
+    given = open_frame(side, number, data, json_wanted)
+    if not isinstance(given, Given):
+        return given
+    what, used = f"{side} frame, header {number}", len(given.every_byte)
+    if json_wanted:
+        print(json.dumps(row(message=what, accepted=True, used=used, **given.in_json())))
+        return 0
+    print(f"{what}: accepted, {used} of {len(data)} bytes used")
+    for line in [*lines(given.header), *given.body_in_lines()]:
+        print(line)
+    return 0
+
+
+def header_number(message, version):
+    """Which header the message has at that version."""
+    key, side = SENT[message]
+    return int(answering([f"{side}_number {key} {version}"])[0][1])
 
 
 def night(json_wanted):
@@ -395,7 +485,7 @@ def night(json_wanted):
     return 0
 
 
-# ---- the input: raw bytes or plain hex, and no frame
+# ---- the input: raw bytes or plain hex, and no frame where none is said to be
 
 
 DUMP = """It looks like a dump, whose lines begin with offsets. xxd -r makes raw bytes of a dump of xxd. Else give the bytes that were dumped,
@@ -410,12 +500,8 @@ text, ask with --raw."""
 # Control characters that stand in no text. Bell to return (07 to 0d), DOS's end of a file (1a) and escape (1b) do.
 NO_TEXT = re.compile(rb"[\x00-\x06\x0e-\x19\x1c-\x1f\x7f]")
 UTF8_MARK, UTF16_MARKS = b"\xef\xbb\xbf", (b"\xff\xfe", b"\xfe\xff")
-# A header, in words: how many bytes stand in front of the mark, with the size; what they are; what comes between the mark and the body.
-RESPONSE = (8, "the size and the correlation id, 4 bytes each", "")
-REQUEST = (12, "the size (4 bytes), the API key (2), the version (2) and the correlation id (4)", "the client id (its length in 2 bytes, its text), ")
-TAGS = "the header's tagged fields (one byte 00, if there are none), "
-# The header of each message, and the first version at which it has tagged fields.
-HEADERS = {"api-versions": (RESPONSE, None), "api-versions-request": (REQUEST, 3), "metadata": (RESPONSE, 9), "fetch": (RESPONSE, 12)}
+# The fewest bytes that a frame has: its size and the numbers of a header, which for a request are API key, version and correlation id.
+FEWEST = {"request": 12, "response": 8}
 
 
 def bytes_of(name, data, form):
@@ -480,18 +566,13 @@ def offsets_in(lines):
     return before > 0 and (len(lines) > 1 or all(len(word) == 2 for word in lines[0][1:]))
 
 
-def refuse_frame(name, message, version, data):
+def refuse_frame(name, message, data):
     """A frame begins with its size: how many bytes come after it."""
-    (place, front, client), tags_from = HEADERS[message]
-    after = len(data) - 4
-    if len(data) < place or int.from_bytes(data[:4], "big") != after:
+    after = len(data) - SIZE
+    if len(data) < FEWEST[SENT[message][1]] or int.from_bytes(data[:SIZE], "big") != after:
         return
-    tags = TAGS if tags_from is not None and version >= tags_from else ""
-    raise NoBody("\n".join([
-        f"{name} is a frame and not a body: its first 4 bytes say that {after} bytes follow, and {after} do",
-        *around(data, place),
-        f"In front of the mark: {front}. From the mark on: {client}{tags}the body.",
-        "Give the body alone. If it is a body as it stands, ask with --body."]))
+    raise NoBody(f"{name} begins as a frame does: its first {SIZE} bytes say that {after} bytes follow, and {after} do\n"
+                 "If it is a frame, ask with --frame: the header is read, and then the body in it. If it is a body, ask with --body.")
 
 
 # ---- arguments
@@ -515,12 +596,28 @@ def input_of(words):
         raise Usage(f"{words[0]}: {e.strerror}") from None
 
 
+def given_body(name, message, version, data, flags, frames, json_wanted):
+    """The body that is asked about, out of its frame where there is one; or the exit, where the frame was refused."""
+    if frames:
+        (word,) = frames
+        number = cell(word.removeprefix("--frame="), "the NUMBER of --frame") if word != "--frame" else header_number(message, version)
+        return open_frame(SENT[message][1], number, data, json_wanted)
+    if "--body" not in flags:
+        refuse_frame(name, message, data)
+    return Given(data)
+
+
+def cell(word, name):
+    return whole_number(word, -(2**63), 2**63 - 1, name)
+
+
 def main(words):
     flags = {w for w in words if w.startswith("--")}
+    frames = {w for w in flags if w == "--frame" or w.startswith("--frame=")}
     command, *rest = [w for w in words if not w.startswith("--")] or [""]
-    if not flags <= {"--json", "--raw", "--hex", "--body"} or {"--raw", "--hex"} <= flags:
-        raise Usage("options are --json, --body, and --raw or --hex")
-    wanted = {"read": 2, "whole": 1, "agree": 1, "host": 2, "night": 0}
+    if not flags - frames <= {"--json", "--raw", "--hex", "--body"} or {"--raw", "--hex"} <= flags or len(frames) + ("--body" in flags) > 1:
+        raise Usage("options are --json, --frame or --body, and --raw or --hex")
+    wanted = {"read": 2, "whole": 1, "agree": 1, "host": 2, "frame": 2, "night": 0}
     if command not in wanted or not wanted[command] <= len(rest) <= wanted[command] + (command != "night"):
         raise Usage("")
     json_wanted = "--json" in flags
@@ -529,18 +626,23 @@ def main(words):
     first = rest[: wanted[command]]
     if command == "read" and first[0] not in READS:
         raise Usage(f"there is no message {first[0]}")
+    if command == "frame" and (first[0] not in FRAMES or frames or "--body" in flags):
+        raise Usage("a frame is asked about with request or response, and without --frame and --body")
     message = {"read": first[0], "host": "metadata"}.get(command, "api-versions")
-    version = whole_number(first[-1], -(2**63), 2**63 - 1, "VERSION")
+    version = cell(first[-1], "NUMBER" if command == "frame" else "VERSION")
     node = whole_number(first[0], -(2**31), 2**31 - 1, "NODE") if command == "host" else 0
     name, data = input_of(rest[wanted[command]:])
-    body = bytes_of(name, data, "--raw" if "--raw" in flags else "--hex" if "--hex" in flags else "")
-    if "--body" not in flags:
-        refuse_frame(name, message, version, body)
+    data = bytes_of(name, data, "--raw" if "--raw" in flags else "--hex" if "--hex" in flags else "")
+    if command == "frame":
+        return frame(first[0], version, data, json_wanted)
+    given = given_body(name, message, version, data, flags, frames, json_wanted)
+    if not isinstance(given, Given):
+        return given
     if command == "host":
-        return host(node, version, body, json_wanted)
+        return host(node, version, given, json_wanted)
     if command == "agree":
-        return agree(version, body, json_wanted)
-    return read(message, version, body, json_wanted, command == "whole")
+        return agree(version, given, json_wanted)
+    return read(message, version, given, json_wanted, command == "whole")
 
 
 try:

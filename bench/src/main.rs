@@ -4,6 +4,7 @@
 
 mod bodies;
 mod count;
+mod frames;
 #[allow(dead_code)]
 #[path = "../../binding/src/raw.rs"]
 mod raw;
@@ -287,6 +288,11 @@ fn main() {
     metadata(timed, &mut t, 50, 200);
     fetch(timed, &mut t, 4, 1024);
     fetch_request(timed, &mut t);
+    frames::response(timed, &mut t, 60);
+    frames::request(timed, &mut t);
+    for length in [0, 1831] {
+        frames::written(timed, length);
+    }
     primitives(timed);
     // cost against size, from 1 KiB to 1 MiB
     for items in [150, 600, 2400, 149_000] {

@@ -65,6 +65,12 @@ pub struct Tag<'a> {
     pub data: &'a [u8],
 }
 
+impl<'a> Tags<'a> {
+    pub(crate) fn of(rows: Rows<'a, 3>, msg: &'a [u8]) -> Tags<'a> {
+        Tags { rows, msg, next: 0 }
+    }
+}
+
 impl<'a> Iterator for Tags<'a> {
     type Item = Tag<'a>;
 
@@ -94,7 +100,7 @@ impl<'a> Iterator for ApiVersions<'a> {
         let rows = self.tags.part(self.tag, n);
         self.next += 1;
         self.tag += n;
-        let tags = (row[3] != NO_COUNT).then_some(Tags { rows, msg: self.msg, next: 0 });
+        let tags = (row[3] != NO_COUNT).then_some(Tags::of(rows, self.msg));
         Some(ApiVersion { api_key: row[0] as i16, min_version: row[1] as i16, max_version: row[2] as i16, tags })
     }
 }
@@ -109,7 +115,7 @@ impl<'a> ApiVersionsResponse<'a> {
     pub fn tags(&self) -> Option<Tags<'a>> {
         let n = told(self.own);
         let rows = self.tags.part(self.tags.len() - n, n);
-        (self.own != NO_COUNT).then_some(Tags { rows, msg: self.msg, next: 0 })
+        (self.own != NO_COUNT).then_some(Tags::of(rows, self.msg))
     }
 
     /// The versions to speak with this broker: ApiVersions, Metadata and Fetch, in that order.
@@ -298,7 +304,7 @@ pub struct ApiVersionsRequest<'a> {
 impl<'a> ApiVersionsRequest<'a> {
     /// Its tagged fields; `None` below version 3.
     pub fn tags(&self) -> Option<Tags<'a>> {
-        (self.own != NO_COUNT).then_some(Tags { rows: self.tags, msg: self.msg, next: 0 })
+        (self.own != NO_COUNT).then_some(Tags::of(self.tags, self.msg))
     }
 }
 

@@ -81,6 +81,37 @@ pub struct FetchNumbers {
     pub topics: i64,
 }
 
+#[repr(C)]
+#[derive(Clone, Copy, Debug)]
+pub struct RequestFrameNumbers {
+    pub number: i64,
+    pub place: i64,
+    pub need: i64,
+    pub used: i64,
+    pub request_api_key: i64,
+    pub request_api_version: i64,
+    pub correlation_id: i64,
+    pub client_id_kind: i64,
+    pub client_id_start: i64,
+    pub client_id_length: i64,
+    pub tags: i64,
+    pub body_start: i64,
+    pub body_length: i64,
+}
+
+#[repr(C)]
+#[derive(Clone, Copy, Debug)]
+pub struct ResponseFrameNumbers {
+    pub number: i64,
+    pub place: i64,
+    pub need: i64,
+    pub used: i64,
+    pub correlation_id: i64,
+    pub tags: i64,
+    pub body_start: i64,
+    pub body_length: i64,
+}
+
 extern "C" {
     pub fn befrolan_read_api_versions_response(
         msg: *const u8,
@@ -170,6 +201,46 @@ extern "C" {
         topics_len: usize,
         partitions: *const i64,
         partitions_len: usize,
+    ) -> Numbers;
+    pub fn befrolan_request_number(key: i64, version: i64) -> i64;
+    pub fn befrolan_response_number(key: i64, version: i64) -> i64;
+    pub fn befrolan_read_request_frame(
+        msg: *const u8,
+        msg_len: usize,
+        header: i64,
+        tags: *mut i64,
+        tags_len: usize,
+    ) -> RequestFrameNumbers;
+    pub fn befrolan_read_response_frame(
+        msg: *const u8,
+        msg_len: usize,
+        header: i64,
+        tags: *mut i64,
+        tags_len: usize,
+    ) -> ResponseFrameNumbers;
+    pub fn befrolan_write_request_frame(
+        out: *mut u8,
+        out_len: usize,
+        header: i64,
+        lent: *const u8,
+        lent_len: usize,
+        row: *const i64,
+        tags: *const i64,
+        tags_len: usize,
+        body: *const u8,
+        body_len: usize,
+    ) -> Numbers;
+    pub fn befrolan_write_response_frame(
+        out: *mut u8,
+        out_len: usize,
+        header: i64,
+        lent: *const u8,
+        lent_len: usize,
+        row: *const i64,
+        tags: *const i64,
+        tags_len: usize,
+        body: *const u8,
+        body_len: usize,
     ) -> Numbers;
     pub fn befrolan_well_formed(text: *const u8, text_len: usize) -> u64;
 }

@@ -8,20 +8,20 @@ use std::fmt;
 /// as it was.
 #[derive(Clone, Copy, Debug, PartialEq, Eq, Hash)]
 pub struct Refusal {
-    /// The number, from 1 to 13.
+    /// The number, from 1 to 14.
     pub number: u8,
-    /// The byte of the message that the refusal is about.
+    /// The byte of the message, or of the frame, that the refusal is about.
     pub place: usize,
     /// The bytes that an output needs; 0 for every other number. Room for rows is found by the calls themselves.
     pub need: usize,
 }
 
 impl Refusal {
-    /// The message has no such version.
+    /// The message has no such version, or there is no such header.
     pub const NO_VERSION: u8 = 1;
-    /// The message, or what would be written, has over 1,048,576 bytes.
+    /// The message, or what would be written, has over 1,048,576 bytes; of a frame to write, header and body together.
     pub const TOO_LONG: u8 = 2;
-    /// The bytes end inside a primitive.
+    /// The bytes end inside a primitive; at 0, where a frame is read, before the end of the frame.
     pub const BYTES_END: u8 = 3;
     /// A length or count is below what is allowed.
     pub const LENGTH_BELOW: u8 = 4;
@@ -42,6 +42,8 @@ impl Refusal {
     pub const TOO_WIDE: u8 = 11;
     /// Rows or ranges that contradict each other.
     pub const BAD_TABLES: u8 = 13;
+    /// The size before a frame is below 0 or over 1,048,576.
+    pub const BAD_SIZE: u8 = 14;
 
     pub(crate) fn of(number: i64, place: i64, need: i64) -> Refusal {
         Refusal { number: number as u8, place: place as usize, need: need as usize }
@@ -49,9 +51,9 @@ impl Refusal {
 }
 
 /// What each number means, in words; data/refusals.txt has the same.
-const WORDS: [&str; 14] = [
+const WORDS: [&str; 15] = [
     "accepted",
-    "the message has no such version",
+    "there is no such version, or no such header",
     "the message has more than 1,048,576 bytes",
     "the message ends inside a field",
     "a length or count is below what is allowed",
@@ -64,6 +66,7 @@ const WORDS: [&str; 14] = [
     "a number or text does not fit its field",
     "a group of seven bits does not fit a byte",
     "counts or ranges contradict what was lent",
+    "the size before the frame is below 0 or over 1,048,576",
 ];
 
 /// As `3 at byte 12: the message ends inside a field`; with the need, where there is too little room.

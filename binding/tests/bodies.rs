@@ -230,7 +230,7 @@ fn a_text_is_refused_at_its_first_bad_letter() {
 #[test]
 fn refusals_have_the_words_of_the_night_desk() {
     let words = include_str!("../../data/refusals.txt");
-    assert_eq!(words.lines().count(), 13);
+    assert_eq!(words.lines().count(), 14);
     for line in words.lines() {
         let (number, means) = line.split_once(' ').unwrap();
         let said = Refusal { number: number.parse().unwrap(), place: 5, need: 6 }.to_string();

@@ -2,7 +2,7 @@
 use crate::line::Refusal;
 use crate::model::primitives::{Form, Null, Primitive};
 use crate::model::write::{Given, Own};
-use crate::model::{api_versions, fetch, metadata, primitives, write, Shown};
+use crate::model::{api_versions, fetch, frames, metadata, primitives, write, Shown};
 use crate::rust;
 use crate::token::Token;
 
@@ -187,6 +187,8 @@ pub enum Kind {
     NumberOrUnset,
     PartOrUnset,
     FlagOrUnset,
+    /// And this can be `null` too.
+    TextOrUnset,
 }
 
 /// Every write from tables: what its words are, and how many tables it is given.
@@ -200,3 +202,71 @@ pub static WRITE_BODIES: [(&WriteBody, &[Kind], usize); 5] = {
         (&FETCH_REQUEST_WRITE, &[Number, Number, Number, NumberOrUnset, NumberOrUnset, Number], 2),
     ]
 };
+
+/// A read of a frame, which fills a lent table of tags.
+pub struct ReadFrame {
+    pub name: &'static str,
+    /// The header numbers that there are. The Rust has those from 0 on.
+    pub headers: frames::Headers,
+    /// A header number from 0 on, and the bytes, of which the frame is the first.
+    pub model: for<'a> fn(i16, &'a [u8]) -> Result<Shown<'a>, Refusal>,
+    pub rust: fn(i16, &[u8]) -> rust::Read,
+}
+
+/// Of requests, and of responses.
+pub static READ_FRAMES: [ReadFrame; 2] = [
+    ReadFrame {
+        name: "request_frame_read",
+        headers: frames::REQUEST,
+        model: frames::read_request,
+        rust: rust::frames::read_request,
+    },
+    ReadFrame {
+        name: "response_frame_read",
+        headers: frames::RESPONSE,
+        model: frames::read_response,
+        rust: rust::frames::read_response,
+    },
+];
+
+/// A write of a frame.
+pub struct WriteFrame {
+    pub name: &'static str,
+    pub headers: frames::Headers,
+    /// What the words of the header's own row are.
+    pub kinds: &'static [Kind],
+    /// 13, 7 and 11, or the header's bytes; neither size nor room is judged.
+    pub model: fn(i16, &Given) -> Result<Vec<u8>, Refusal>,
+    /// Header number, header, and body.
+    pub rust: fn(i16, &Given, &[u8]) -> Result<rust::Written, rust::Silence>,
+}
+
+pub static WRITE_FRAMES: [WriteFrame; 2] = [
+    WriteFrame {
+        name: "request_frame_write",
+        headers: frames::REQUEST,
+        kinds: &[Kind::Number, Kind::Number, Kind::Number, Kind::TextOrUnset, Kind::Number],
+        model: frames::write_request,
+        rust: rust::frames::write_request,
+    },
+    WriteFrame {
+        name: "response_frame_write",
+        headers: frames::RESPONSE,
+        kinds: &[Kind::Number, Kind::Number],
+        model: frames::write_response,
+        rust: rust::frames::write_response,
+    },
+];
+
+/// Which header a message has, by its API key and version.
+pub struct HeaderNumber {
+    pub name: &'static str,
+    pub model: fn(i64, i64) -> i64,
+    /// Nothing for an API that the Rust as given does not have.
+    pub rust: fn(i16, i16) -> Option<i64>,
+}
+
+pub static HEADER_NUMBERS: [HeaderNumber; 2] = [
+    HeaderNumber { name: "request_number", model: frames::request_number, rust: rust::frames::request_number },
+    HeaderNumber { name: "response_number", model: frames::response_number, rust: rust::frames::response_number },
+];

@@ -1,9 +1,10 @@
 //! A case, and its line.
-use crate::calls::{Named, ReadBody, WriteBody};
+use crate::calls::{HeaderNumber, Named, ReadBody, ReadFrame, WriteBody, WriteFrame};
 use crate::line::{put_bytes, put_cells, put_word, Word};
 use crate::model::primitives::Primitive;
 use crate::model::write::{Given, Own, Value};
 use std::io::Write;
+use std::slice::from_ref;
 
 pub enum Case {
     WellFormed(Vec<u8>),
@@ -37,6 +38,26 @@ pub enum Case {
         node: i64,
         message: Vec<u8>,
     },
+    ReadFrame {
+        call: &'static ReadFrame,
+        header: i64,
+        room: usize,
+        message: Vec<u8>,
+    },
+    WriteFrame {
+        call: &'static WriteFrame,
+        room: usize,
+        header: i64,
+        lent: Vec<u8>,
+        own: Vec<Own>,
+        tags: Vec<i64>,
+        body: Vec<u8>,
+    },
+    HeaderNumber {
+        call: &'static HeaderNumber,
+        key: i64,
+        version: i64,
+    },
 }
 
 impl Case {
@@ -50,6 +71,9 @@ impl Case {
             Case::WriteBody { call, .. } => call.name,
             Case::Agree(_) => "agree",
             Case::Host { .. } => "host",
+            Case::ReadFrame { call, .. } => call.name,
+            Case::WriteFrame { call, .. } => call.name,
+            Case::HeaderNumber { call, .. } => call.name,
         }
     }
 
@@ -93,13 +117,26 @@ impl Case {
                 write!(line, " {version} {node}").unwrap();
                 put(line, message);
             }
+            Case::ReadFrame { header, room, message, .. } => {
+                write!(line, " {header} {room}").unwrap();
+                put(line, message);
+            }
+            Case::WriteFrame { room, header, lent, own, tags, body, .. } => {
+                write!(line, " {room} {header}").unwrap();
+                put(line, lent);
+                own.iter().for_each(|own| put_own(line, own));
+                put_table(line, tags);
+                put(line, body);
+            }
+            Case::HeaderNumber { key, version, .. } => write!(line, " {key} {version}").unwrap(),
         }
     }
 
-    /// What a writer of a body is given.
+    /// What a writer of a body or of a header is given.
     pub fn given(&self) -> Option<Given<'_>> {
         match self {
             Case::WriteBody { lent, own, tables, .. } => Some(Given { lent, own, tables }),
+            Case::WriteFrame { lent, own, tags, .. } => Some(Given { lent, own, tables: from_ref(tags) }),
             _ => None,
         }
     }
@@ -130,6 +167,7 @@ fn put_own(line: &mut Vec<u8>, own: &Own) {
         Own::Number(n) => write!(line, " {n}").unwrap(),
         Own::Part(start, length) => write!(line, " {}:{}", *start as u64, *length as u64).unwrap(),
         Own::Flag(flag) => write!(line, " {}", u8::from(*flag)).unwrap(),
+        Own::Null => line.extend(b" null"),
         Own::Absent => line.extend(b" absent"),
     }
 }

@@ -1,5 +1,7 @@
 //! The answer to a case by the rules, held against what the Rust says. A disagreement is either an entry of
 //! docs/DIFFERENCES.md, and then the Rust does what that entry says, or it is a complaint.
+mod frames;
+
 use crate::calls::{ReadBody, WriteBody};
 use crate::case::Case;
 use crate::line::{Answer, Refusal, Word};
@@ -51,6 +53,11 @@ pub fn judge(case: &Case) -> Verdict<'_> {
         Case::WriteBody { call, room, version, .. } => {
             judge_body_written(call, *room, *version, &case.given().expect("a write from tables"))
         }
+        Case::ReadFrame { call, header, room, message } => frames::judge_read(call, *header, *room, message),
+        Case::WriteFrame { call, room, header, body, .. } => {
+            frames::judge_written(call, *room, *header, &case.given().expect("a header to write"), body)
+        }
+        Case::HeaderNumber { call, key, version } => frames::judge_number(call, *key, *version),
     }
 }
 

@@ -1,6 +1,7 @@
 //! A case from its line, as docs/ANSWERS.md spells it: the inverse of `Case::put`. A line that is no case gives nothing, and
 //! neither does a version that 16 bits do not hold.
-use crate::calls::{Kind, Named, ReadBody, WriteBody, PRIMITIVES, READ_BODIES, WRITE_BODIES};
+use crate::calls::{Kind, Named, ReadBody, ReadFrame, WriteBody, WriteFrame};
+use crate::calls::{HEADER_NUMBERS, PRIMITIVES, READ_BODIES, READ_FRAMES, WRITE_BODIES, WRITE_FRAMES};
 use crate::case::Case;
 use crate::make::reads::MOST_CELLS;
 use crate::make::writes::MOST_BYTES;
@@ -35,8 +36,23 @@ fn case(name: &str, words: &mut Words) -> Option<Case> {
     if let Some(call) = READ_BODIES.iter().find(|call| call.name == name) {
         return read_body(call, words);
     }
+    if let Some(case) = framed(name, words) {
+        return Some(case);
+    }
     let (call, kinds, tables) = WRITE_BODIES.iter().find(|(call, ..)| call.name == name)?;
     write_body(call, kinds, *tables, words)
+}
+
+/// Frames, and which header there is.
+fn framed(name: &str, words: &mut Words) -> Option<Case> {
+    if let Some(call) = READ_FRAMES.iter().find(|call| call.name == name) {
+        return read_frame(call, words);
+    }
+    if let Some(call) = WRITE_FRAMES.iter().find(|call| call.name == name) {
+        return write_frame(call, words);
+    }
+    let call = HEADER_NUMBERS.iter().find(|call| call.name == name)?;
+    Some(Case::HeaderNumber { call, key: number(words.next()?)?, version: number(words.next()?)? })
 }
 
 fn host(words: &mut Words) -> Option<Case> {
@@ -64,6 +80,28 @@ fn write_body(call: &'static WriteBody, kinds: &[Kind], tables: usize, words: &m
         lent: bytes(words.next()?)?,
         own: kinds.iter().map(|kind| own(*kind, words.next()?)).collect::<Option<_>>()?,
         tables: (0..tables).map(|_| cells(words.next()?)).collect::<Option<_>>()?,
+    })
+}
+
+/// A header has any number that a cell holds.
+fn read_frame(call: &'static ReadFrame, words: &mut Words) -> Option<Case> {
+    Some(Case::ReadFrame {
+        call,
+        header: number(words.next()?)?,
+        room: room(words.next()?, MOST_CELLS)?,
+        message: bytes(words.next()?)?,
+    })
+}
+
+fn write_frame(call: &'static WriteFrame, words: &mut Words) -> Option<Case> {
+    Some(Case::WriteFrame {
+        call,
+        room: room(words.next()?, MOST_BYTES)?,
+        header: number(words.next()?)?,
+        lent: bytes(words.next()?)?,
+        own: call.kinds.iter().map(|kind| own(*kind, words.next()?)).collect::<Option<_>>()?,
+        tags: cells(words.next()?)?,
+        body: bytes(words.next()?)?,
     })
 }
 
@@ -98,6 +136,8 @@ fn own(kind: Kind, word: &str) -> Option<Own> {
         Kind::NumberOrUnset => number(word).map(Own::Number),
         Kind::PartOrUnset => part(word),
         Kind::FlagOrUnset => flag(word).map(Own::Flag),
+        Kind::TextOrUnset if word == "null" => Some(Own::Null),
+        Kind::TextOrUnset => part(word),
     }
 }
 

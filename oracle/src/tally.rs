@@ -8,7 +8,7 @@ use std::fmt::{Display, Formatter, Result};
 const MOST_SHOWN: usize = 20;
 
 /// The entries of docs/DIFFERENCES.md that an input can fall under here.
-const ENTRIES: [(u8, &str); 10] = [
+const ENTRIES: [(u8, &str); 13] = [
     (1, "versions below 0"),
     (2, "versions above the range"),
     (3, "compact bytes of length 0"),
@@ -19,13 +19,16 @@ const ENTRIES: [(u8, &str); 10] = [
     (10, "bytes behind the body, whole read"),
     (11, "isolation levels other than 0 and 1"),
     (12, "values that the Rust's types cannot hold"),
+    (13, "request header 0"),
+    (14, "frames over the limit that are cut"),
+    (15, "header numbers of versions that are not here"),
 ];
 
 /// Of one call.
 #[derive(Default)]
 struct Counts {
     /// How many answers of each number, `ok` being 0.
-    answers: [u64; 14],
+    answers: [u64; 15],
     voices: [u64; 3],
 }
 
@@ -40,7 +43,7 @@ pub struct Tally {
     inputs: u64,
     calls: BTreeMap<&'static str, Counts>,
     voices: [u64; 3],
-    entries: [u64; 13],
+    entries: [u64; 16],
     complaints: u64,
     shown: Vec<String>,
 }

@@ -43,6 +43,20 @@ fn numbers_and_pieces_may_be_spelled_otherwise() {
             "request_write 3 3 - 0:18446744073709551615 absent -1 -",
         ),
         ("fetch_request_write 21 4 - -1 500 1 -0 001 0 - -", "fetch_request_write 21 4 - -1 500 1 0 1 0 - -"),
+        ("request_frame_read 18446744073709551615 007 00*1,00", "request_frame_read -1 7 0000"),
+        ("response_frame_read -9223372036854775808 0 -", "response_frame_read -9223372036854775808 0 -"),
+        (
+            "request_frame_write 09 01 61*1 -0 18446744073709551615 7 00:01 -1 - 00,00",
+            "request_frame_write 9 1 61 0 -1 7 0:1 -1 - 0000",
+        ),
+        ("request_frame_write 9 1 - 1 2 3 absent 0 1,2 -", "request_frame_write 9 1 - 1 2 3 absent 0 1,2 -"),
+        ("request_frame_write 9 1 - 1 2 3 null 0 - 62*9", "request_frame_write 9 1 - 1 2 3 null 0 - 62*9"),
+        (
+            "response_frame_write 0 65536 - 99999999999 1 5*2,5*2 -",
+            "response_frame_write 0 65536 - 99999999999 1 5*4 -",
+        ),
+        ("request_number 018 65536", "request_number 18 65536"),
+        ("response_number -0 18446744073709551615", "response_number 0 -1"),
     ];
     for (odd, plain) in same {
         assert_eq!(back(odd).as_deref(), Some(plain));
@@ -145,6 +159,31 @@ fn bad_lines_give_nothing() {
         "metadata_request_write 5 4 - 0 null -",
         "metadata_request_write 5 4 - null absent -",
         "fetch_request_write 21 4 - -1 500 1 absent 0:0 0 - -",
+        // Frames.
+        "request_frame_read 1 00",
+        "request_frame_read 1 0 00 00",
+        "request_frame_read absent 0 00",
+        "request_frame_read 18446744073709551616 0 00",
+        "request_frame_read 1 65537 00",
+        "response_frame_read 0 -1 00",
+        "response_frame_read 0 0 0",
+        "request_frame_write 9 1 - 1 2 3 null 0 -",
+        "request_frame_write 9 1 - 1 2 3 null 0 - - -",
+        "request_frame_write 1048641 1 - 1 2 3 null 0 - -",
+        "request_frame_write 9 1 - absent 2 3 null 0 - -",
+        "request_frame_write 9 1 - 1 2 3 0 0 - -",
+        "request_frame_write 9 1 - 1 2 3 nul 0 - -",
+        "request_frame_write 9 1 - 1 2 3 null null - -",
+        "request_frame_write 9 1 - 1 2 3 null 0 - null",
+        "request_frame_write 9 1 - 1 2 3 null 0 - 00*1048641",
+        "response_frame_write 9 1 - null 0 - -",
+        "response_frame_write 9 1 - 7 null 0 - -",
+        "response_frame_write 9 1 - 7 0 1,,2 -",
+        "request_number 18",
+        "request_number 18 3 0",
+        "request_number 18 absent",
+        "response_number 18446744073709551616 0",
+        "response_number - 0",
     ];
     for line in bad {
         assert_eq!(back(line), None, "{line:?}");

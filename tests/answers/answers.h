@@ -39,6 +39,7 @@ extern size_t most_cells;
 /* What a word stands for. What it does not stand for is FILL, or nothing at all: a call that looks at it is noticed. */
 struct word {
     bool nothing;         /* it is `null` or `absent` */
+    bool null;            /* it is `null` */
     int64_t cell;         /* a number, or the start of a part */
     size_t size;          /* a room, the length of a part, or how many bytes or cells there are */
     const uint8_t *bytes;
@@ -48,7 +49,7 @@ struct word {
 /* Takes the k-th word of a line as one of that kind; false where it is none. The kinds:
  * R, O  room for cells, for bytes      N, V  a number, a version         F  1 or 0
  * B     bytes                          C     cells                       P  a part, or `absent`
- * A, T  F or N, or `absent`            Y, Z  B or N, or `null`
+ * A, T  F or N, or `absent`            Y, Z  B or N, or `null`           X  P, or `null`
  */
 bool take(char kind, struct text t, size_t k, struct word *w);
 
@@ -111,6 +112,8 @@ typedef void asking(const struct word *w, uint64_t number);
 
 asking ask_well_formed, ask_is_text, ask_primitive, ask_tagged_fields;
 asking ask_response, ask_request, ask_agree, ask_metadata, ask_host, ask_fetch;
+asking ask_request_frame, ask_response_frame, ask_request_number, ask_response_number;
 asking ask_write_primitive, ask_write_tagged_fields, ask_write_response, ask_write_request, ask_write_metadata, ask_write_fetch;
+asking ask_write_request_frame, ask_write_response_frame;
 
 #endif

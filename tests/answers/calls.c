@@ -66,6 +66,13 @@ static const struct call {
 
     {"fetch_read", "VRRRB", ask_fetch, 0},
     {"fetch_request_write", "OVBNNNTTNCC", ask_write_fetch, 0},
+
+    {"request_frame_read", "VRB", ask_request_frame, 0},
+    {"response_frame_read", "VRB", ask_response_frame, 0},
+    {"request_frame_write", "OVBNNNXNCB", ask_write_request_frame, 0},
+    {"response_frame_write", "OVBNNCB", ask_write_response_frame, 0},
+    {"request_number", "VV", ask_request_number, 0},
+    {"response_number", "VV", ask_response_number, 0},
 };
 
 /* Cases come in rows of one call, so the one that was asked last is looked at first. */

@@ -1,4 +1,4 @@
-/* The calls that read: texts, primitives, bodies, and what is found in them. */
+/* The calls that read: texts, primitives, bodies, what is found in them, and frames. */
 #include "answers.h"
 
 /* ---- texts and primitives */
@@ -140,4 +140,50 @@ void ask_fetch(const struct word *w, uint64_t number)
     say_number(r.used);
     say_optional(r.throttle_kind, r.throttle);
     say_signed(r.topics);
+}
+
+/* ---- frames */
+
+void ask_request_frame(const struct word *w, uint64_t number)
+{
+    (void)number;
+    befrolan_request_frame_numbers r = befrolan_read_request_frame(
+        w[2].bytes, w[2].size, w[0].cell, lend_table(w[1].size), w[1].size);
+    if (!ACCEPTED(r))
+        return;
+    say_number(r.used);
+    say_signed(r.request_api_key);
+    say_signed(r.request_api_version);
+    say_signed(r.correlation_id);
+    note(r.client_id_kind != BEFROLAN_ABSENT);
+    say_part(r.client_id_kind, &w[2], r.client_id_start, r.client_id_length);
+    say_signed(r.tags);
+    say_part(BEFROLAN_PRESENT, &w[2], r.body_start, r.body_length);
+}
+
+void ask_response_frame(const struct word *w, uint64_t number)
+{
+    (void)number;
+    befrolan_response_frame_numbers r = befrolan_read_response_frame(
+        w[2].bytes, w[2].size, w[0].cell, lend_table(w[1].size), w[1].size);
+    if (!ACCEPTED(r))
+        return;
+    say_number(r.used);
+    say_signed(r.correlation_id);
+    say_signed(r.tags);
+    say_part(BEFROLAN_PRESENT, &w[2], r.body_start, r.body_length);
+}
+
+void ask_request_number(const struct word *w, uint64_t number)
+{
+    (void)number;
+    say("ok");
+    say_signed(befrolan_request_number(w[0].cell, w[1].cell));
+}
+
+void ask_response_number(const struct word *w, uint64_t number)
+{
+    (void)number;
+    say("ok");
+    say_signed(befrolan_response_number(w[0].cell, w[1].cell));
 }

@@ -69,6 +69,27 @@ def long_lines():
     same("a line of five million bytes that is no case", ["x" * 5000000, "int8 " + " " * 5000000, "agree " + "," * 5000000, E9[0]], [BAD, BAD, BAD, E9[1]])
 
 
+def long_frames():
+    """The limit is that of header and body together: with the size 4 bytes more are written, and what is after a frame is not looked at."""
+    most, front = 1048576, "0010000000000007"
+    same("a frame of the most bytes, written", ["response_frame_write %d 0 - 7 -1 - 61*%d" % (room, n) for room, n in ((most + 4, most - 4), (most + 3, most - 4), (most + 64, most - 3))],
+         ["ok %d %s,61*%d kept" % (most + 4, front, most - 4), "no 10 0 %d a5*%d kept" % (most + 4, most + 3), "no 2 0 0 a5*%d kept" % (most + 64)])
+    same("a request's frame of the most bytes, written", ["request_frame_write %d 1 - 18 3 7 null -1 - 61*%d" % (most + 64, n) for n in (most - 10, most - 9)],
+         ["ok %d 001000000012000300000007ffff,61*%d,a5*60 kept" % (most + 4, most - 10), "no 2 0 0 a5*%d kept" % (most + 64)])
+    same("a frame of the most bytes, read", ["response_frame_read 0 0 %s,61*%d%s" % (front, n, after) for n, after in ((most - 4, ""), (most - 4, ",62*60"), (most - 5, ""))]
+         + ["response_frame_read 0 0 0010000100000007,61*%d" % (most - 3), "request_frame_read 1 0 80000000,00*%d" % most],
+         ["ok %d 7 -1 8:61*%d - kept" % (most + 4, most - 4)] * 2 + ["no 3 0 0 - kept", "no 14 0 0 - kept", "no 14 0 0 - kept"])
+
+
+def documented():
+    """The examples of docs/ANSWERS.md that go in pairs of lines, a case and its answer."""
+    with open(os.path.join(ROOT, "docs/ANSWERS.md")) as f:
+        _, _, after = f.read().partition("go in pairs")
+    lines = [line.strip() for line in after.splitlines() if line.startswith("    ")]
+    check("pairs of lines in docs/ANSWERS.md", len(lines) >= 14 and len(lines) % 2 == 0)
+    same("the examples of docs/ANSWERS.md", lines[::2], lines[1::2])
+
+
 def rooms():
     same("a table over the most cells", ["tagged_fields 65536 00", "tagged_fields 65537 00"], ["ok 1 0 777*65536 kept", BAD])
     same("as many cells as are asked for", ["tagged_fields 1048640 00", "tagged_fields 1048641 00", "agree 0*1048640"],
@@ -84,7 +105,13 @@ ODD = ["\0", "int8\0 00", "int8 00\0", "int8 00\r", "int8 00 ", " int8 00", "int
        "int8 00*99999999999999999999", "agree", "agree ,", "agree 1,", "agree 1*", "agree 1*0", "agree *1", "agree 1*1*1", "agree +1", "agree 1-", "agree -", "agree - -",
        "agree 18446744073709551616", "agree -9223372036854775809", "write_int8 1 ", "write_int8 -1 0", "write_int8 1048641 0", "write_boolean 1 2", "write_boolean 1 01",
        "write_boolean 1 true", "write_array_count 4 nul", "write_string 4 null", "request_write 9 3 - 0:0 0: 0 -", "request_write 9 3 - :0 0:0 0 -",
-       "request_write 9 3 - 0:0:0 absent 0 -", "request_write 9 3 - null absent 0 -", "part 00 0 1", "response_read 0x3 8 3 00", "host 0 0", "host 0 0 - -"]
+       "request_write 9 3 - 0:0:0 absent 0 -", "request_write 9 3 - null absent 0 -", "part 00 0 1", "response_read 0x3 8 3 00", "host 0 0", "host 0 0 - -",
+       "request_frame_read", "request_frame_read 1 0", "request_frame_read 1 0 - -", "request_frame_read 1 -1 -", "request_frame_read - 0 -", "response_frame_read 0 65537 -",
+       "request_frame_write 20 1 - 18 3 7 nul -1 - -", "request_frame_write 20 1 - 18 3 7 0 -1 - -", "request_frame_write 20 1 - 18 3 7 0: -1 - -",
+       "request_frame_write 20 1 - 18 3 7 null null - -", "request_frame_write 20 1 - absent 3 7 null -1 - -", "request_frame_write 20 1 - 18 3 7 null -1 -",
+       "request_frame_write 1048641 1 - 18 3 7 null -1 - -", "response_frame_write 20 0 - 7 absent - -", "response_frame_write 20 0 - 7 -1 - null",
+       "response_frame_write 20 0 - 7 -1 - - -", "response_frame_write 20 0 - 18446744073709551616 -1 - -", "request_number 18", "request_number 18 3 0", "request_number x 3",
+       "response_number 18 -", "response_number -9223372036854775809 0"]
 
 
 def odd():
@@ -104,7 +131,8 @@ def noise():
     """Whatever is wrong with a line, it has one answer, and the next line has its own."""
     rng = random.Random(1)
     cases = [c for c in stored("cases").split(b"\n") if len(c) < 200 and b"\n" not in c]
-    lines = [damaged(rng.choice(cases), rng) for _ in range(20000)]
+    framed = [c for c in cases if b"_frame_" in c]
+    lines = [damaged(rng.choice(cases), rng) for _ in range(20000)] + [damaged(rng.choice(framed), rng) for _ in range(5000)]
     answered, status = told(b"\n".join(lines) + b"\n")
     check("damaged cases", status == 0 and answered.count(b"\n") == len(lines) and b"broken" not in answered and b"stray" not in answered)
     return len(lines)
@@ -123,7 +151,7 @@ def one_by_one():
 
 command = sys.argv[1:] or [os.path.join(ROOT, "tools/answers")]
 lines = replay()
-for test in (ends, long_lines, rooms, odd, one_by_one):
+for test in (ends, long_lines, long_frames, documented, rooms, odd, one_by_one):
     test()
 damages = noise()
 print("answers: %d stored lines replayed, %d damaged ones and %d odd ones answered, %d failed" % (lines, damages, len(ODD), len(failed)))

@@ -173,25 +173,23 @@ static bool take_cells(struct text t, size_t k, struct word *w)
 /* ---- kinds */
 
 /* `null` or `absent`, where the kind has it */
-static bool nothing(char kind, struct text t)
+static bool null(char kind, struct text t)
 {
-    switch (kind) {
-    case 'Y': case 'Z':
-        return is(t, "null");
-    case 'A': case 'P': case 'T':
-        return is(t, "absent");
-    default:
-        return false;
-    }
+    return (kind == 'X' || kind == 'Y' || kind == 'Z') && is(t, "null");
+}
+
+static bool absent(char kind, struct text t)
+{
+    return (kind == 'A' || kind == 'P' || kind == 'T' || kind == 'X') && is(t, "absent");
 }
 
 bool take(char kind, struct text t, size_t k, struct word *w)
 {
     *w = (struct word){.cell = FILL};
-    if (nothing(kind, t)) {
-        w->nothing = true;
+    w->null = null(kind, t);
+    w->nothing = w->null || absent(kind, t);
+    if (w->nothing)
         return true;
-    }
     switch (kind) {
     case 'R':
         return at_most(t, most_cells, &w->size);
@@ -205,7 +203,7 @@ bool take(char kind, struct text t, size_t k, struct word *w)
         return take_bytes(t, k, w);
     case 'C':
         return take_cells(t, k, w);
-    case 'P':
+    case 'P': case 'X':
         return part(t, w);
     default:
         give_up("a row of the table has a kind of word that there is not");

@@ -7,9 +7,11 @@ static void say_written(befrolan_numbers r)
         say_number(r.used);
 }
 
-/* of what a caller may leave unset */
+/* of what a caller may leave unset, or give as null */
 static int64_t kind(struct word w)
 {
+    if (w.null)
+        return BEFROLAN_NULL;
     return w.nothing ? BEFROLAN_ABSENT : BEFROLAN_PRESENT;
 }
 
@@ -68,4 +70,20 @@ void ask_write_fetch(const struct word *w, uint64_t number)
     const int64_t body[8] = {w[3].cell, w[4].cell, w[5].cell, kind(w[6]), w[6].cell, kind(w[7]), w[7].cell, w[8].cell};
     say_written(befrolan_write_fetch_request(
         lend_output(w[0].size), w[0].size, w[1].cell, w[2].bytes, w[2].size, body, w[9].cells, w[9].size, w[10].cells, w[10].size));
+}
+
+void ask_write_request_frame(const struct word *w, uint64_t number)
+{
+    (void)number;
+    const int64_t row[7] = {w[3].cell, w[4].cell, w[5].cell, kind(w[6]), w[6].cell, length(w[6]), w[7].cell};
+    say_written(befrolan_write_request_frame(
+        lend_output(w[0].size), w[0].size, w[1].cell, w[2].bytes, w[2].size, row, w[8].cells, w[8].size, w[9].bytes, w[9].size));
+}
+
+void ask_write_response_frame(const struct word *w, uint64_t number)
+{
+    (void)number;
+    const int64_t row[2] = {w[3].cell, w[4].cell};
+    say_written(befrolan_write_response_frame(
+        lend_output(w[0].size), w[0].size, w[1].cell, w[2].bytes, w[2].size, row, w[5].cells, w[5].size, w[6].bytes, w[6].size));
 }

@@ -79,6 +79,11 @@ static const uint8_t METADATA4[67] = {COUNT(0), COUNT(1), COUNT(1), 0, 1, 'h', C
 static const uint8_t FETCH0[29] = {COUNT(1), 0, 1, 't', COUNT(1), COUNT(0), 0, 0, LONG(5), COUNT(0)};
 static const uint8_t FETCH4[61] = {COUNT(0), COUNT(1), 0, 1, 't', COUNT(1), COUNT(0), 0, 0, LONG(5), LONG(4), COUNT(1), LONG(6), LONG(3), COUNT(0)};
 
+/* frames: key 18, version 3, correlation number 7, client's name "g"; and a tag 5 with the data "A" in each; no body */
+static const uint8_t FRAME2[19] = {COUNT(15), 0, 18, 0, 3, COUNT(7), 0, 1, 'g', 1, 5, 1, 'A'};
+static const uint8_t FRAME1[12] = {COUNT(8), COUNT(7), 1, 5, 1, 'A'};
+static const int64_t request_header[7] = {18, 3, 7, 0, 0, 0, -1}, response_header[2] = {7, -1};
+
 /* own rows to write: no items, no topics, everything unset */
 static const int64_t response[5] = {0, 0, 0, 0, -1}, request[7] = {0, 0, 0, 0, 0, 0, -1}, metadata[3] = {0, 0, 0}, fetch[8] = {-1, 500, 1, 0, 0, 0, 0, 0};
 #define FETCH_HEAD NONE, 0, 0, 1, 0xf4, COUNT(1)
@@ -102,10 +107,18 @@ static void outside(int64_t v)
     WRITES_NOTHING(befrolan_write_api_versions_request(out(), 64, v, none, 0, request, no_cells, 0), 1);
     WRITES_NOTHING(befrolan_write_metadata_request(out(), 64, v, none, 0, metadata, no_cells, 0), 1);
     WRITES_NOTHING(befrolan_write_fetch_request(out(), 64, v, none, 0, fetch, no_cells, 0, no_cells, 0), 1);
+    LEAVES(request_frame_numbers, befrolan_read_request_frame(FRAME2, 19, v, T1), 1);
+    LEAVES(response_frame_numbers, befrolan_read_response_frame(FRAME1, 12, v, T1), 1);
+    WRITES_NOTHING(befrolan_write_request_frame(out(), 64, v, none, 0, request_header, no_cells, 0, none, 0), 1);
+    WRITES_NOTHING(befrolan_write_response_frame(out(), 64, v, none, 0, response_header, no_cells, 0, none, 0), 1);
     /* before what a null slice is refused for */
     LEAVES(response_numbers, befrolan_read_api_versions_response(NULL, 0, v, 0, NULL, 0, NULL, 0), 1);
     LEAVES(metadata_numbers, befrolan_read_metadata_response(NULL, 0, v, NULL, 0, NULL, 0, NULL, 0, NULL, 0, NULL, 0), 1);
     LEAVES(fetch_numbers, befrolan_read_fetch_response(NULL, 0, v, NULL, 0, NULL, 0, NULL, 0), 1);
+    LEAVES(request_frame_numbers, befrolan_read_request_frame(NULL, 0, v, NULL, 0), 1);
+    LEAVES(response_frame_numbers, befrolan_read_response_frame(NULL, 0, v, NULL, 0), 1);
+    IS(numbers, befrolan_write_request_frame(NULL, 0, v, NULL, 0, request_header, NULL, 0, NULL, 0), 1);
+    IS(numbers, befrolan_write_response_frame(NULL, 0, v, NULL, 0, response_header, NULL, 0, NULL, 0), 1);
 }
 
 /* nothing but the version refuses them: each is taken at its own */
@@ -122,6 +135,10 @@ static void inside(void)
     IS(host_numbers, befrolan_find_host(METADATA4, 67, 4, 1), 0, 0, 0, 1, 14, 1);
     IS(fetch_numbers, befrolan_read_fetch_response(FETCH0, 29, 0, T1, T2, T3), 0, 0, 0, 29, 0, 0, 1);
     IS(fetch_numbers, befrolan_read_fetch_response(FETCH4, 61, 4, T1, T2, T3), 0, 0, 0, 61, 2, 0, 1);
+    IS(request_frame_numbers, befrolan_read_request_frame(FRAME2, 19, 1, T1), 0, 0, 0, 19, 18, 3, 7, 2, 14, 1, -1, 15, 4);
+    IS(request_frame_numbers, befrolan_read_request_frame(FRAME2, 19, 2, T1), 0, 0, 0, 19, 18, 3, 7, 2, 14, 1, 1, 19, 0);
+    IS(response_frame_numbers, befrolan_read_response_frame(FRAME1, 12, 0, T1), 0, 0, 0, 12, 7, -1, 8, 4);
+    IS(response_frame_numbers, befrolan_read_response_frame(FRAME1, 12, 1, T1), 0, 0, 0, 12, 7, 1, 12);
 }
 
 /* ---- slices of length 0 with a null pointer: answered as any other empty slice */
@@ -219,6 +236,26 @@ static void null_fetch(void)
     WRITES_NOTHING(befrolan_write_fetch_request(out(), 64, 0, NULL, 0, C(-1, 500, 1, 0, 0, 0, 0, 1), C(0, 1, 0), 3, NULL, 0), 13);
 }
 
+static void null_frames(void)
+{
+    LEAVES(request_frame_numbers, befrolan_read_request_frame(NULL, 0, 1, NULL, 0), 3);
+    LEAVES(request_frame_numbers, befrolan_read_request_frame(NULL, 0, 2, T1), 3);
+    LEAVES(response_frame_numbers, befrolan_read_response_frame(NULL, 0, 0, NULL, 0), 3);
+    LEAVES(response_frame_numbers, befrolan_read_response_frame(NULL, 0, 1, T1), 3);
+    LEAVES(request_frame_numbers, befrolan_read_request_frame(FRAME2, 19, 1, NULL, 0), 0, 0, 0, 19, 18, 3, 7, 2, 14, 1, -1, 15, 4);
+    LEAVES(request_frame_numbers, befrolan_read_request_frame(FRAME2, 19, 2, NULL, 0), 10, 0, 1);
+    LEAVES(response_frame_numbers, befrolan_read_response_frame(FRAME1, 12, 1, NULL, 0), 10, 0, 1);
+    IS(numbers, befrolan_write_request_frame(NULL, 0, 1, NULL, 0, request_header, NULL, 0, NULL, 0), 10, 0, 14);
+    IS(numbers, befrolan_write_request_frame(NULL, 0, 2, NULL, 0, request_header, NULL, 0, NULL, 0), 10, 0, 15);
+    IS(numbers, befrolan_write_response_frame(NULL, 0, 0, NULL, 0, response_header, NULL, 0, NULL, 0), 10, 0, 8);
+    IS(numbers, befrolan_write_response_frame(NULL, 0, 1, NULL, 0, response_header, NULL, 0, NULL, 0), 10, 0, 9);
+    WRITES(befrolan_write_request_frame(out(), 64, 1, NULL, 0, request_header, NULL, 0, NULL, 0), COUNT(10), 0, 18, 0, 3, COUNT(7), 0xff, 0xff);
+    WRITES(befrolan_write_request_frame(out(), 64, 2, NULL, 0, C(18, 3, 7, 2, 0, 0, 1), C(5, 0, 0), 3, NULL, 0), COUNT(13), 0, 18, 0, 3, COUNT(7), 0, 0, 1, 5, 0);
+    WRITES(befrolan_write_response_frame(out(), 64, 1, NULL, 0, response_header, NULL, 0, NULL, 0), COUNT(5), COUNT(7), 0);
+    WRITES_NOTHING(befrolan_write_request_frame(out(), 64, 1, NULL, 0, C(18, 3, 7, 2, 0, 1, -1), NULL, 0, NULL, 0), 13);
+    WRITES_NOTHING(befrolan_write_response_frame(out(), 64, 0, NULL, 0, C(7, 1), NULL, 0, NULL, 0), 13);
+}
+
 static void null_primitives(void)
 {
     /* a 0, false, no items, or contents without bytes, of each kind: as many zeros, or a single 1 */
@@ -259,5 +296,6 @@ void boundary(void)
     null_api_versions();
     null_metadata();
     null_fetch();
+    null_frames();
     null_primitives();
 }

@@ -35,6 +35,7 @@ int main(void)
     subject("Metadata and hosts", metadata_and_hosts);
     subject("Fetch responses", fetch_responses);
     subject("Fetch requests", fetch_requests);
+    subject("frames and headers", frames);
     subject("texts, primitives and tagged fields", primitives);
     subject("versions outside all, and null slices", boundary);
     printf("%d checks, %d failed\n", checks, failed);

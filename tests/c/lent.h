@@ -25,6 +25,7 @@ void api_versions(void);
 void metadata_and_hosts(void);
 void fetch_responses(void);
 void fetch_requests(void);
+void frames(void);
 void primitives(void);
 void boundary(void);
 

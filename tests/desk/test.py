@@ -232,8 +232,8 @@ def forms():
         check(what, (out, err.partition("\n")[0], code), ("", "befrolan: " + seen, 2))
 
 
-def frames():
-    """A frame is told by its size alone: one more byte or one fewer, and it is none. No body of zeros is one."""
+def recognised():
+    """A frame is known by its size alone: one more byte or one fewer, and it is none. No body of zeros is one."""
     body = i16(0) + i32(1) + i16(18) + i16(0) + i16(3)
     for size, code in ((len(body) + 4, 2), (len(body) + 3, 1), (len(body) + 5, 1)):
         check(f"a frame of size {size}", asked(["whole", "0"], i32(size) + i32(7) + body)[2], code)
@@ -242,10 +242,101 @@ def frames():
         check(f"{zeros} zeros", asked(["read", "fetch", "0"], bytes(zeros))[2], 0)
 
 
+def framed(header, body):
+    return i32(len(header) + len(body)) + header + body
+
+
+def request_header(v):
+    client = string(v["client_id"])
+    return i16(v["request_api_key"]) + i16(v["request_api_version"]) + i32(v["correlation_id"]) + client + (tags(v["_tagged_fields"]) if "_tagged_fields" in v else b"")
+
+
+def response_header(v):
+    return i32(v["correlation_id"]) + (tags(v["_tagged_fields"]) if "_tagged_fields" in v else b"")
+
+
+def headers():
+    """Frames from values: each header, with bytes after the frame and without; and what is refused, at its place."""
+    some = [{"tag": 300, "data": "4100"}, {"tag": 0, "data": ""}, {"tag": 300, "data": "ff" * 200}]
+    number = {"request_api_key": -1, "request_api_version": 32767, "correlation_id": -(2**31)}
+    for side, header, front, v in (
+            ("request", 1, request_header, dict(number, client_id="漢 \0")), ("request", 1, request_header, dict(number, client_id=None)),
+            ("request", 2, request_header, dict(number, client_id="", _tagged_fields=some)), ("request", 2, request_header, dict(number, client_id=None, _tagged_fields=[])),
+            ("response", 0, response_header, {"correlation_id": 2**31 - 1}), ("response", 1, response_header, {"correlation_id": 0, "_tagged_fields": some})):
+        for body, after in ((b"", b""), (b"\0\1", b""), (b"\0\1", bytes(70000))):
+            start = 4 + len(front(v))
+            said, code = told(["frame", side, str(header), "--raw"], framed(front(v), body) + after)
+            wanted = {"message": f"{side} frame, header {header}", "accepted": True, "used": start + len(body), "header": v,
+                      "body_part": {"start": start, "length": len(body)}, "after_frame": len(after)}
+            check(f"{side} header {header}, {v}, {len(body)} and {len(after)} bytes after it", (said, code), (wanted, 0))
+    for what, words, given, refusal in (
+            ("no bytes", ["frame", "response", "0"], b"", (3, 0)), ("a cut size", ["frame", "request", "1"], b"\0\0\0", (3, 0)),
+            ("size -1", ["frame", "request", "2"], b"\xff" * 4 + bytes(20), (14, 0)), ("a size over the limit", ["frame", "response", "1"], i32(1048577), (14, 0)),
+            ("the same with all its bytes", ["frame", "response", "1"], i32(1048577) + bytes(1048577), (14, 0)),
+            ("a frame that is cut", ["frame", "response", "0"], i32(6) + i32(7) + b"\0", (3, 0)),
+            ("a size of 3", ["frame", "response", "0"], i32(3) + i32(7), (3, 4)), ("header 3", ["frame", "request", "3"], bytes(20), (1, 0)),
+            ("a header far outside", ["frame", "response", "65536"], framed(i32(7), b""), (1, 0)),
+            ("a name that goes on after its frame", ["frame", "request", "1"], i32(11) + bytes(8) + i16(3) + b"abcd", (3, 12)),
+            ("a name that is too short", ["frame", "request", "1"], framed(bytes(8) + i16(-2), b""), (4, 12)),
+            ("tags without an end", ["frame", "response", "1"], framed(i32(7) + b"\x80" * 10, b""), (5, 8))):
+        said, code = told([*words, "--raw"], given)
+        check(what, (said.get("refusal", {}).get("number"), said.get("refusal", {}).get("place"), code), (*refusal, 1))
+    out, _, code = asked(["frame", "response", "1", "--raw"], i32(1048576) + bytes(1048576))
+    check("the longest frame", (out, code), ("response frame, header 1: accepted, 1048580 of 1048580 bytes used\ncorrelation_id: 0\n_tagged_fields: []\nbody: 1048571 bytes at 9\n", 0))
+    tag = {"tag": 2, "data": ""}
+    said, code = told(["frame", "response", "1", "--raw"], framed(i32(7) + varint(524284) + b"\x02\0" * 524284, b"x"))
+    check("524,284 tags in a header", (said.get("header") == {"correlation_id": 7, "_tagged_fields": [tag] * 524284}, said.get("body_part"), code), (True, {"start": 1048579, "length": 1}, 0))
+
+
+def bodies_in_frames():
+    """Bodies out of frames: what is said of them is the same, and every place counts from the frame's first byte."""
+    short = i32(7)
+    fetched = i32(0) + i32(1) + string("t") + i32(1) + i32(0) + i16(0) + i64(1) + i64(1) + i32(0) + i32(3) + b"abc"
+    records = {"start": 8 + len(fetched) - 3, "length": 3}
+    for after in (b"", b"\0\0\0\4"):
+        said, code = told(["read", "fetch", "4", "--frame", "--raw"], framed(short, fetched) + after)
+        check("records in a frame", (said["body"]["responses"][0]["partitions"][0]["records"], said["used"], said["header"], said["after_frame"], code),
+              (records, len(fetched), {"correlation_id": 7}, len(after), 0))
+    out, _, code = asked(["read", "fetch", "4", "--frame", "--raw"], framed(short, fetched))
+    check("records in a frame, as lines", ("records 3 bytes at 53" in out, fetched[45:], code), (True, b"abc", 0))
+    broker = i32(7) + string("h") + i32(9) + string(None)
+    cluster = i32(0) + array([broker], bytes) + string("c") + i32(1) + i32(0)
+    out, _, code = asked(["host", "7", "4", "--frame", "--raw"], framed(short, cluster))
+    check("a host in a frame", (out, code), ('host of node 7, metadata version 4: "h"\n', 0))
+    check("the same in JSON", told(["host", "7", "4", "--frame", "--raw"], framed(short, cluster)),
+          ({"message": "host of node 7, metadata version 4", "accepted": True, "header": {"correlation_id": 7}, "body_part": {"start": 8, "length": len(cluster)},
+            "after_frame": 0, "host": "h"}, 0))
+    # another header than the one that the message has
+    said, code = told(["read", "fetch", "4", "--frame=1", "--raw"], framed(short + tags([]), fetched))
+    check("a header that is asked for", (said["header"], said["body_part"]["start"], code), ({"correlation_id": 7, "_tagged_fields": []}, 9, 0))
+    check("one that there is not", told(["read", "fetch", "4", "--frame=2", "--raw"], framed(short, fetched))[0]["refusal"]["number"], 1)
+    # requests of version 3 have header 2, and those before it header 1
+    for version, front in ((3, {"_tagged_fields": []}), (2, {})):
+        header = dict(request_api_key=18, request_api_version=version, correlation_id=5, client_id="g", **front)
+        said, code = told(["read", "api-versions-request", str(version), "--frame", "--raw"], framed(request_header(header), b"\1\1\0"))
+        check(f"the header of a request of version {version}", (said["header"], code), (header, 0))
+    # each bad letter in a frame: the mark is under it, and the place of a byte in the words is one of the frame
+    for contents, marked, words in LETTERS:
+        for side, question, before, after in (
+                ("response", ["read", "metadata", "0", "--frame"], short + i32(1) + i32(7), b"\x80\0\0\0" + i32(0)),
+                ("request", ["frame", "request", "1"], i16(18) + i16(3) + i32(7), b"\x80")):
+            frame = framed(before, i16(len(contents)) + contents + after)
+            place = 4 + len(before) + 2 + marked
+            said = words.replace("PLACE", str(frame.find(b"(", place)))
+            out, _, code = asked([*question, "--raw"], frame)
+            under = next((above[10:][line.index("^") - 10:][:2] for above, line in zip(out.split("\n"), out.split("\n")[1:]) if "^^" in line), "")
+            check(f"{question}, {contents[-9:]}: its words and its mark", (said in out.split("\n"), under, code), (True, f"{frame[place]:02x}", 1))
+            got = told([*question, "--raw"], frame)[0].get("refusal", {})
+            check(f"{question}, {contents[-9:]}, in JSON", (got.get("number"), got.get("place"), got.get("letter")), (7, place, said))
+
+
 def usage():
     for words in ([], ["read"], ["read", "fetch"], ["read", "produce", "1"], ["read", "fetch", "x"], ["read", "fetch", "9223372036854775808"], ["whole"],
                   ["whole", "1", "no-such-file"], ["host", "1"], ["host", "3000000000", "1"], ["night", "1"], ["agree", "1", "--yaml"],
-                  ["whole", "1", "--raw", "--hex"], ["whole", "1", "--frame"], ["--body"], ["wholes", "1"], ["agree", "1", "a", "b"], ["host", "x", "1"]):
+                  ["whole", "1", "--raw", "--hex"], ["whole", "1", "--frame", "--body"], ["whole", "1", "--frame", "--frame=0"], ["whole", "1", "--frames"],
+                  ["whole", "1", "--frame="], ["whole", "1", "--frame=x"], ["frame"], ["frame", "response"], ["frame", "answer", "0"], ["frame", "response", "x"],
+                  ["frame", "response", "0", "--frame"], ["frame", "response", "0", "--body"], ["frame", "response", "0", "a", "b"], ["frame", "0", "response"],
+                  ["--body"], ["--frame"], ["wholes", "1"], ["agree", "1", "a", "b"], ["host", "x", "1"]):
         out, err, code = asked(words)
         check(f"usage of {words}", (out, "usage: ./befrolan" in err, code), ("", True, 2))
 
@@ -256,7 +347,7 @@ def versions():
         for words in (["read", "api-versions"], ["whole"], ["agree"], ["read", "api-versions-request"], ["read", "metadata"], ["host", "1"], ["read", "fetch"]):
             said, code = told([*words, version], bytes(8))
             check(f"{words} at {version}", (said.get("refusal"), code),
-                  ({"number": 1, "means": "the message has no such version", "place": 0, "need": 0}, 1))
+                  ({"number": 1, "means": "there is no such version, or no such header", "place": 0, "need": 0}, 1))
 
 
 def night():
@@ -266,7 +357,7 @@ def night():
 
 # The first question has what it needs built, and says so.
 asked(["read", "api-versions", "0"], bytes(6))
-for part in (stored, made, letters, sizes, large, forms, frames, usage, versions, night):
+for part in (stored, made, letters, sizes, large, forms, recognised, headers, bodies_in_frames, usage, versions, night):
     part()
 print(f"desk: {tried} checks, {len(wrong)} wrong")
 sys.exit(1 if wrong else 0)

@@ -14,6 +14,7 @@ use Rattle.primitives.specs.Answers.{ofRefusal}
 use Rattle.primitives.specs.declared.Refusal as Code
 use Rattle.body_reading.specs.Moved.{arrayItems}
 use Rattle.body_reading.specs.Store.{State, Tab, add, own, put, store, tab}
+use Rattle.body_reading.specs.Tagged.{tagsIf}
 use Rattle.body_reading.specs.Walk.{Places, Runs, on, rowFrom, walk}
 use Rattle.body_reading.proofs.Arrays.{items-no, items-no-count, items-took}
 use Rattle.body_reading.proofs.Front.{then-give}
@@ -23,7 +24,7 @@ use Rattle.body_reading.specs.Cells.{ofVersionedAt, versionedCells}
 use Rattle.body_reading.specs.declared.versioned.VersionedAt.{VersionedAt}
 use Rattle.body_reading.specs.declared.versioned.Versioned.{Versioned}
 use Rattle.tagged_fields.specs.declared.reading.Walked.{Walked}
-use Rattle.api_versions_response.specs.ItemShapes.{keyShape, tagsIf}
+use Rattle.api_versions_response.specs.ItemShapes.{keyShape}
 use Rattle.api_versions_response.specs.Shapes.{bodyShape, tailShape}
 use Rattle.api_versions_response.specs.ItemWalks.{inTables, rowsIs}
 use Rattle.api_versions_response.specs.Walks.{Before, behindItems, finish, ofMeasured, ofTail}

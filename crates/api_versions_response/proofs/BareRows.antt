@@ -15,11 +15,11 @@ use Rattle.layout.specs.Tables.{Span, cells, readRows}
 use Rattle.primitives.specs.Answers.{ofRefusal}
 use Rattle.primitives.specs.declared.Refusal as Code
 use Rattle.body_reading.specs.Store.{State, Tab, add, own, step, store, tab}
-use Rattle.body_reading.specs.Tagged.{tagsShape}
+use Rattle.body_reading.specs.Tagged.{tagsIf}
 use Rattle.body_reading.specs.Walk.{Places, Runs, on, walk}
 use Rattle.tagged_fields.specs.Read as Tags
 use Rattle.tagged_fields.specs.declared.reading.Walked.{Walked}
-use Rattle.api_versions_response.specs.ItemShapes.{keyFront, keyShape, tagsIf}
+use Rattle.api_versions_response.specs.ItemShapes.{keyFront, keyShape}
 use Rattle.api_versions_response.specs.ItemWalks.{Bare, IsBare, inTables, ofKey, rowsIs}
 use Rattle.api_versions_response.specs.declared.items.Key.{Key}
 use Rattle.api_versions_response.specs.declared.items.Rows.{Rows}
@@ -30,7 +30,7 @@ use Rattle.body_reading.proofs.Stores.{four-out, store-append}
 use Rattle.layout.proofs.Local.{not-ok}
 use Rattle.layout.proofs.Tests.{of-eq}
 use Rattle.body_reading.proofs.FrontAt.{cell-at}
-use Rattle.tagged_fields.proofs.Replies.{buffer-empty}
+use Rattle.tagged_fields.proofs.Replies.{buffer-empty, tags-there}
 
 -- ---- its numbers
 
@@ -65,23 +65,6 @@ module _ (s : List ℕ) (p : ℕ) where
 any-whole : (w : Bool) → read (byPlace false) keyFront ≡ read (byPlace w) keyFront
 unfolding read readBasic
 any-whole w = refl
-
--- ---- tags, where the version has them
-
-module _ (f : Bool) (s : List ℕ) (p : ℕ) (l : List ℕ) (k : ℕ) where
-  of-flag : (b : Bool) → f ≡ b → (g : Bool × Places × Tab → Res State) → Runs (λ e. walk (e .0) (tagsIf b (e .1 .t)) (e .1 .o)) s p (Tags.inTables l k) g → Runs (λ e. walk (e .0) (tagsIf f (e .1 .t)) (e .1 .o)) s p (Tags.inTables l k) g
-  of-flag b e g h = subst (λ (x : Bool). Runs (λ e. walk (e .0) (tagsIf x (e .1 .t)) (e .1 .o)) s p (Tags.inTables l k) g) (sym e) h
-
-  pub tags-there : f ≡ true → (l′ : List ℕ) (r : Walked) → Runs (λ e. walk (e .0) (tagsShape true (e .1 .t)) (e .1 .o)) s p (Tags.inTables l k) (Tags.inTablesIs l′ r) →
-      Runs (λ e. walk (e .0) (tagsIf f (e .1 .t)) (e .1 .o)) s p (Tags.inTables l k) (Tags.inTablesIs l′ r)
-  unfolding tagsIf standing stands
-  tags-there e l′ r h = of-flag true e (Tags.inTablesIs l′ r) (record { law = λ e. h .law e })
-
-  pub tags-lacking : f ≡ false → Runs (λ e. walk (e .0) (tagsIf f (e .1 .t)) (e .1 .o)) s p (Tags.inTables l k) (Tags.inTablesIs l (Walked.Took minus p k))
-  unfolding tagsIf standing readRows
-  tags-lacking e = of-flag false e (Tags.inTablesIs l (Walked.Took minus p k)) (record {
-    law = λ e. ap (λ (u : State). ok u p) (sym (e .1 .row-law (e .2) (tab l k) (minus ∷ []))) ∙ row-end (e .0) (e .1 .o) (add (e .1 .o) (minus ∷ []) (Tags.inTables l k e)) s p;
-  })
 
 -- ---- the item
 

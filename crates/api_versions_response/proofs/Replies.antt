@@ -22,13 +22,14 @@ use Rattle.primitives.specs.declared.Refusal as Code
 use Rattle.primitives.proofs.Versions.{known, up-to}
 use Rattle.body_reading.specs.Meter.{short}
 use Rattle.body_reading.specs.Store.{State, own, tab}
+use Rattle.body_reading.specs.Tagged.{tagsIf}
 use Rattle.body_reading.specs.Walk.{on, walk}
 use Rattle.body_reading.proofs.Bound.{lean, slim, taken}
 use Rattle.body_reading.proofs.Close.{slices}
 use Rattle.layout.proofs.Chunks.{nil}
 use Rattle.body_reading.proofs.Reply.{answers-fits, answers-left, answers-long, answers-needs, answers-no}
 use Rattle.api_versions_response.specs.Answers.{ofResponse}
-use Rattle.api_versions_response.specs.ItemShapes.{keyShape, tagsIf}
+use Rattle.api_versions_response.specs.ItemShapes.{keyShape}
 use Rattle.api_versions_response.specs.Shapes.{bodyShape, responseShape, tailShape}
 use Rattle.api_versions_response.specs.Walks.{isLeft, ofMeasured}
 use Rattle.api_versions_response.specs.declared.ResponseBody.{ResponseBody}

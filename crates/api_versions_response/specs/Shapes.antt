@@ -4,8 +4,8 @@ use mathlib.Core.Bool.{Bool, false, true}
 use mathlib.Core.List.{[], _∷_}
 use Rattle.layout.specs.Primitives.{w16, w32}
 use Rattle.layout.specs.Rows.{Shape, absent, array, field, items, number, optional}
-use Rattle.body_reading.specs.Tagged.{tagsShape}
-use Rattle.api_versions_response.specs.ItemShapes.{keyShape, tagsIf}
+use Rattle.body_reading.specs.Tagged.{tagsIf, tagsShape}
+use Rattle.api_versions_response.specs.ItemShapes.{keyShape}
 
 abbrev pub itemShape : Bool → Shape
 itemShape f = field (number w16) (field (number w16) (field (number w16) (tagsShape f 2)))

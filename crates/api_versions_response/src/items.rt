@@ -7,7 +7,7 @@ ghost use Rattle.layout.specs.Reading.{loop};
 ghost use Rattle.layout.specs.Read.{byPlace, read};
 ghost use Rattle.body_reading.specs.Walk.{Runs, on, walk};
 ghost use Rattle.tagged_fields.specs.Read as Tags;
-ghost use Rattle.api_versions_response.specs.ItemShapes.{keyFront, keyShape, tagsIf};
+ghost use Rattle.api_versions_response.specs.ItemShapes.{keyFront, keyShape};
 ghost use Rattle.api_versions_response.specs.ItemWalks.{Bare, IsBare, inTables, ofKey, rowsIs};
 use body_reading::places::int16_at;
 use body_reading::tables::less;
@@ -16,10 +16,7 @@ use body_reading::tables::store4;
 use primitives::Number;
 use primitives::Refusal;
 use tagged_fields::reading::Walked;
-use tagged_fields::reading::tag_buffer_at;
-
-// -1: tags that the version lacks.
-const ABSENT: u64 = 18446744073709551615;
+use tagged_fields::reading::tags_if;
 
 // The numbers of an item, and the place behind them.
 pub enum Key {
@@ -40,20 +37,6 @@ pub enum Rows {
         tags: usize,
     },
     Refused(Refusal),
-}
-
-// Tagged fields at the end of a row, where the version has them.
-pub(crate) fn tags_if(s: &[u8], p: usize, flexible: bool, table: &mut [u64], mark: usize) -> Walked
-    ensures { λ r. ⌜ Runs (λ e. walk (e .0) (tagsIf flexible (e .1 .t)) (e .1 .o)) (now (s .entry)) p (Tags.inTables (now (table .entry)) mark) (Tags.inTablesIs (now (table .exit)) r) ⌝ }
-{
-    if flexible {
-        return tag_buffer_at(s, p, table, mark);
-    }
-    Walked::Took {
-        count: ABSENT,
-        used: p,
-        mark,
-    }
 }
 
 fn key_at(s: &[u8], p: usize) -> Key

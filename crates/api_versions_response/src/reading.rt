@@ -16,7 +16,6 @@ use crate::ResponseBody;
 use crate::ResponseReply;
 use crate::items::Rows;
 use crate::items::items_in;
-use crate::items::tags_if;
 use body_reading::places::int16_at;
 use body_reading::places::items_at;
 use body_reading::versioned::Versioned;
@@ -32,6 +31,7 @@ use primitives::at;
 use primitives::no_room;
 use primitives::version_of;
 use tagged_fields::reading::Walked;
+use tagged_fields::reading::tags_if;
 
 // What stands behind the items, the place behind it, and the mark of the tags' table.
 pub enum Tail {

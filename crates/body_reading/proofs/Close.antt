@@ -218,7 +218,7 @@ on-start : {A : Type 0} (o : Res A) → more 0 o ≡ o
 on-start (ok x n) = ap (λ (k : ℕ). ok x k) (zero-add n)
 on-start (bad e) = refl
 
-module _ (w : Bool) (l : Shape) (h : lean l ≡ true) (narrow : rowWidth l ≤ 1000) (s : List ℕ) (size : length s ≤ most) (olds : Tables) where
+module _ (w : Bool) (l : Shape) (h : lean l ≡ true) (narrow : rowWidth l ≤ 1000) (s : List ℕ) (size : length s ≤ most + 4) (olds : Tables) where
   start : Stored (own [] ∷ tabs olds []) ([] ∷ none-yet olds) (own [] ∷ tabs olds [])
   unfolding store
   start = record { long = ap suc (none-long olds); are = ap (λ y. own [] ∷ y) (none-stored olds) }

@@ -23,9 +23,8 @@ use Rattle.body_reading.specs.Walk.{itemCount, on}
 use Rattle.body_reading.specs.Moved.{FieldFits, PartFits, arrayCount, arrayItems, fromPart, further, furtherField, itemsOf}
 use Rattle.layout.proofs.Local.{Local, local-basic, local-flag, local-unsigned, not-ok}
 use Rattle.layout.proofs.Refusals.{tells-basic}
-use Rattle.layout.proofs.Steps.{primitive-place}
 use Rattle.layout.proofs.Tests.{one-more}
-use Rattle.body_reading.proofs.Chains.{give-took, part-inside, then-no, then-took}
+use Rattle.body_reading.proofs.Chains.{give-took, part-inside, then-no, then-took, unsigned-place}
 use Rattle.body_reading.proofs.Moves.{Moves, at-fits, at-no-in, at-took, furtherBasic, furtherMaybe, moves-basic}
 
 module _ (len : Reader ℕ) (s : List ℕ) where
@@ -198,23 +197,23 @@ module _ (s : List ℕ) (p : ℕ) where
       ∙ on-primitive _ s p
 
   -- a varint refuses at its own start
-  unsigned-place : (c : Refusal) → bad c ≡ on unsigned s p → c ≡ because (c .number) p
-  unfolding on unsigned
-  unsigned-place c h = go (unsigned p (drop p s)) refl h
+  unsigned-on : (c : Refusal) → bad c ≡ on unsigned s p → c ≡ because (c .number) p
+  unfolding on
+  unsigned-on c h = go (unsigned p (drop p s)) refl h
     where
       go : (o : Res ℕ) → unsigned p (drop p s) ≡ o → bad c ≡ more p o → c ≡ because (c .number) p
       go (ok x n) d e = not-ok e
-      go (bad b) d e = primitive-place _ p (drop p s) c (d ∙ sym e)
+      go (bad b) d e = unsigned-place p (drop p s) c (d ∙ sym e)
 
   pub length-no : (c : Refusal) → bad c ≡ on unsigned s p → bad c ≡ on (checked false 6 (lengthOf unsigned plain)) s p
   unfolding checked lengthOf
-  length-no c h = ap bad (unsigned-place c h) ∙ ap (placed false p) (then-no (then unsigned (λ n. give (n + 1))) _ s p (then-no unsigned _ s p h)) ∙ on-primitive _ s p
+  length-no c h = ap bad (unsigned-on c h) ∙ ap (placed false p) (then-no (then unsigned (λ n. give (n + 1))) _ s p (then-no unsigned _ s p h)) ∙ on-primitive _ s p
 
   -- ---- and data of that length
 
   pub data-no : (c : Refusal) → bad c ≡ on unsigned s p → bad c ≡ on (readBasic (byPlace false) (blob plain)) s p
   unfolding readBasic sized
-  data-no c h = ap bad (unsigned-place c h) ∙ ap (placed false p) (then-no (checked false 6 (lengthOf unsigned plain)) _ s p (length-no c h)) ∙ on-primitive _ s p
+  data-no c h = ap bad (unsigned-on c h) ∙ ap (placed false p) (then-no (checked false 6 (lengthOf unsigned plain)) _ s p (length-no c h)) ∙ on-primitive _ s p
 
   behind-on : (n q : ℕ) → dataBehind p q n s ≡ placed false p (on (readBlob (byPlace false) n) s q)
   unfolding dataBehind on

@@ -42,12 +42,12 @@ module _ (m : Message) (h : proper m ≡ true) (few : slim m ≡ true) (v : ℕ)
   module _ (scratch : Tables) (many : length scratch ≡ m .tables) where
     pub measured-no : (c : Refusal) → bad c ≡ run m v s scratch → bad c ≡ metered (seen false m (pos v) s)
     unfolding metered
-    measured-no c e = ap metered (sym (seen-bad m h false v s scratch many known size c (ended-no false (shape m v) (thin .0) (thin .1) s size scratch e)))
+    measured-no c e = ap metered (sym (seen-bad m h false v s scratch many known size c (ended-no false (shape m v) (thin .0) (thin .1) s (omega (arith, size)) scratch e)))
 
     pub measured-took : (cs : List ℕ) (u : State) (q : ℕ) → ok (own cs ∷ u) q ≡ run m v s scratch → ok (cs, marks u) q ≡ metered (seen false m (pos v) s)
     unfolding metered
     measured-took cs u q e =
-        let a = ended false (shape m v) (thin .0) (thin .1) s size scratch e in
+        let a = ended false (shape m v) (thin .0) (thin .1) s (omega (arith, size)) scratch e in
         ap (λ (ms : List ℕ). ok (cs, ms) q) (a .marks-are) ∙ ap metered (sym (seen-prefix m v s (cs ∷ a .rows) q known size (sym (from-start m v s scratch many) ∙ a .is)))
 
 -- 1 and 2 come first; v is the version's number, as far as it has one
@@ -135,7 +135,7 @@ module _ (m : Message) (h : proper m ≡ true) (few : slim m ≡ true) (z : ℤ)
           let a = seen-inv false m z s (told .st) q (told .said) in
           let k : a .version ≡ v = sym (i (a .version) (a .is)) in
           let r = from-start m v s olds many ∙ subst (λ (j : ℕ). readRows false append (shape m j) 0 (replicate (suc (m .tables)) []) 0 s ≡ ok (told .st) q) k (a .reads) in
-          of-tables (told .st) (read-long false (shape m v) (thinner .0) (thinner .1) s size olds (told .st) q r) r (ap (λ (y : ℤ). seen false m y s) (is-known v i .0) ∙ told .said) (told .own-row) (told .sizes)
+          of-tables (told .st) (read-long false (shape m v) (thinner .0) (thinner .1) s (omega (arith, size)) olds (told .st) q r) r (ap (λ (y : ℤ). seen false m y s) (is-known v i .0) ∙ told .said) (told .own-row) (told .sizes)
 
       at-z : {o : Answer × Tables} → o ≡ readAnswer false m (pos v) olds s → o ≡ readAnswer false m z olds s
       at-z d = d ∙ ap (λ (y : ℤ). readAnswer false m y olds s) (is-known v i .0)
@@ -150,6 +150,6 @@ module _ (m : Message) (h : proper m ≡ true) (few : slim m ≡ true) (z : ℤ)
       pub metered-fits : short (widths m) ms (lengths olds) ≡ none → (o : Res State) → o ≡ run m v s olds → (news : Tables) → ((x : State) (n : ℕ) → o ≡ ok x n → slices x ≡ news) → (accepted row q, news) ≡ readAnswer false m z olds s
       metered-fits f o d news g =
           let a = known-is in
-          let b = g _ _ (d ∙ runs-so false (shape m v) (thinner .0) (thinner .1) s size olds row (a .st) q (a .is)) in
+          let b = g _ _ (d ∙ runs-so false (shape m v) (thinner .0) (thinner .1) s (omega (arith, size)) olds row (a .st) q (a .is)) in
           ap (λ (y : Tables). (accepted row q, y)) (sym b ∙ slices-tabs (filled olds (a .st)) (lengths (a .st)))
           ∙ at-z (sym (reply-fits m h false v s olds many row (a .st) q (a .said) (a .long) (ap (λ (ns : List ℕ). short (widths m) ns (lengths olds)) (sym (a .sizes)) ∙ f)))

@@ -14,6 +14,7 @@ use Rattle.layout.specs.Rows.{Basic, BasicValue, blob, boolean, level, natural,
 use Rattle.layout.specs.Read.{byPlace, readBasic, readBlob, readText}
 use Rattle.layout.specs.Tables.{Span}
 use Rattle.layout.specs.Utf8.{utf8, wellFormed}
+use Rattle.layout.proofs.Steps.{piece}
 use Rattle.layout.proofs.Local.{Local}
 use Rattle.body_reading.specs.Walk.{itemCount, on}
 
@@ -148,7 +149,7 @@ furtherBasic (blob z) d x = furtherMaybe (keeps z) d x
 furtherBasic (optional c k) d x = furtherBasic k d x
 
 module _ (w : Bool) where
-  part-moves : (n : ℕ) (ok-part : List ℕ → Bool) → Moves (here (λ p. then (raw n) (λ b. pick (ok-part b) (give (p, length b)) (failAt 7 (p + wellFormed b))))) further
+  part-moves : (n : ℕ) (ok-part : List ℕ → Bool) → Moves (piece ok-part (λ p b. (p, length b)) n) further
   unfolding here then pick give failAt raw
   part-moves n good = record { law = λ d p s. go d p s (leb n (length s)) }
     where

@@ -14,11 +14,11 @@ use borrow.Author.Tests.{ne-eqb}
 use Rattle.layout.specs.Reading.{Refusal, Res, bad, because, ok}
 use Rattle.layout.specs.Tables.{Tables, append, from, readRows, rowWidth}
 use Rattle.layout.specs.Answers as Answers
-use Rattle.layout.specs.Answers.{Message, accepted, laid, most, needed, prefixRead, readAnswer, refused, seen, shape, widths}
+use Rattle.layout.specs.Answers.{Message, accepted, judged, laid, most, needed, prefixRead, readAnswer, refused, seen, shape, widths}
 use Rattle.body_reading.specs.Meter.{lengths, short}
 use Rattle.body_reading.specs.Store.{State, own}
 use Rattle.body_reading.specs.Walk.{on, walk}
-use Rattle.layout.proofs.Calls.{Seen, need-is, read-answer, read-refused, seen-inv, tables-are, too-long}
+use Rattle.layout.proofs.Calls.{Seen, need-is, read-refused, seen-inv, tables-of, too-long}
 use Rattle.layout.proofs.Contents.{joined-length, rows-wide, rowsIn}
 use Rattle.layout.proofs.Proper.{owed, proper, width-same, widthAt}
 use Rattle.layout.proofs.Tests.{le-false, le-true, lt-false, lt-true, of-le}
@@ -80,23 +80,39 @@ uncut-from g (suc n) t (cs ∷ st) e h = (
       (λ i l. subst (λ (k : ℕ). length (getD st i []) ≡ length (getD st i []) / g k * g k) (let k : t + suc i ≡ suc t + i = omega arith in k) (h (suc i) (omega arith))),
 )
 
-module _ (m : Message) (h : proper m ≡ true) (w : Bool) (v : ℕ) (s : List ℕ) where
-  rows-even : (st : Tables) (q t : ℕ) → Seen w m (pos v) s st q → 1 ≤ t → t ≤ m .tables → length (getD st t []) ≡ length (getD st t []) / widthAt m 0 t * widthAt m 0 t
+module _ (m : Message) (h : proper m ≡ true) (w : Bool) (v : ℕ) (known : v ≤ m .last) (s : List ℕ) where
+  rows-even : (st : Tables) (q t : ℕ) → readRows w append (shape m v) 0 (replicate (suc (m .tables)) []) 0 s ≡ ok st q → 1 ≤ t → t ≤ m .tables → length (getD st t []) ≡ length (getD st t []) / widthAt m 0 t * widthAt m 0 t
   unfolding widthAt
   rows-even st q t d a b =
-      let e = tables-are m h w (pos v) s st q d in
-      let c = width-same m h (d .version) (d .known) t a b in
-      let rs = rowsIn t (shape m (d .version)) (e .x) in
-      let f = need-is m h w (d .version) s st q t e (d .known) a b in
+      let e = tables-of m h w v s st q known d in
+      let c = width-same m h v known t a b in
+      let rs = rowsIn t (shape m v) (e .x) in
+      let f = need-is m h w v s st q t e known a b in
       ap length (e .others t (ne-eqb t 0 (λ z. omega arith)))
-      ∙ joined-length (widthAt m (d .version) t) rs (rows-wide (λ t. widthAt m (d .version) t) t (shape m (d .version)) (e .x) (owed m h (d .version) (d .known) .wide))
+      ∙ joined-length (widthAt m v t) rs (rows-wide (λ t. widthAt m v t) t (shape m v) (e .x) (owed m h v known .wide))
       ∙ (λ i. sym f i * c .1 i)
 
-  uncut : (row : List ℕ) (st : Tables) (q : ℕ) → length st ≡ m .tables → Seen w m (pos v) s (row ∷ st) q → Uncut (widths m) st
+  pub uncut : (row : List ℕ) (st : Tables) (q : ℕ) → length st ≡ m .tables → readRows w append (shape m v) 0 (replicate (suc (m .tables)) []) 0 s ≡ ok (row ∷ st) q → Uncut (widths m) st
   unfolding widths widthAt
   uncut row st q e d =
       uncut-from (λ t. widthAt m 0 t) (m .tables) 1 st e
       (λ i l. subst (λ (k : ℕ). length (getD st i []) ≡ length (getD st i []) / widthAt m 0 k * widthAt m 0 k) (let k : suc i ≡ 1 + i = omega arith in k) (rows-even (row ∷ st) q (suc i) d (omega arith) (omega arith)))
+
+-- room is judged by the rows alone, whatever the own row and the bytes used are
+module _ (m : Message) (olds : Tables) (row : List ℕ) (st : Tables) (q : ℕ) where
+  -- the first table too small
+  pub judged-needs : (k : ℕ) → short (widths m) (lengths st) (lengths olds) ≡ some k → judged m olds (ok (row ∷ st) q) ≡ (refused (record { number = 10; place = 0; need = k }), olds)
+  judged-needs k e = rw (needed-is (widths m) st olds ∙ e)
+
+  -- all has room
+  pub judged-fits : length st ≡ length olds → Uncut (widths m) st → short (widths m) (lengths st) (lengths olds) ≡ none → judged m olds (ok (row ∷ st) q) ≡ (accepted row q, filled olds st)
+  judged-fits l u e =
+      let n = needed-is (widths m) st olds ∙ e in
+      rw n (ap (λ y. (accepted row q, y)) (sym (filled-laid (widths m) olds st l u n)))
+
+module _ (m : Message) (h : proper m ≡ true) (w : Bool) (v : ℕ) (s : List ℕ) where
+  seen-uncut : (row : List ℕ) (st : Tables) (q : ℕ) → length st ≡ m .tables → Seen w m (pos v) s (row ∷ st) q → Uncut (widths m) st
+  seen-uncut row st q e d = uncut m h w (d .version) (d .known) s row st q e (d .reads)
 
   module _ (olds : Tables) (many : length olds ≡ m .tables) where
     at-start : readRows w append (shape m v) 0 ([] ∷ none-yet olds) 0 s ≡ readRows w append (shape m v) 0 (replicate (suc (m .tables)) []) 0 s
@@ -115,14 +131,12 @@ module _ (m : Message) (h : proper m ≡ true) (w : Bool) (v : ℕ) (s : List �
       -- the first table too small
       pub reply-needs : (k : ℕ) → short (widths m) (lengths st) (lengths olds) ≡ some k → readAnswer w m (pos v) olds s ≡ (refused (record { number = 10; place = 0; need = k }), olds)
       unfolding readAnswer
-      reply-needs k e = rw (d, needed-is (widths m) st olds ∙ e)
+      reply-needs k e = ap (judged m olds) d ∙ judged-needs m olds row st q k e
 
       -- all has room
       pub reply-fits : length st ≡ length olds → short (widths m) (lengths st) (lengths olds) ≡ none → readAnswer w m (pos v) olds s ≡ (accepted row q, filled olds st)
-      reply-fits l e =
-          let n = needed-is (widths m) st olds ∙ e in
-          read-answer m (pos v) s olds w (row ∷ st) q d n
-          ∙ ap (λ y. (accepted row q, y)) (sym (filled-laid (widths m) olds st l (uncut row st q (l ∙ many) (seen-inv w m (pos v) s (row ∷ st) q d)) n))
+      unfolding readAnswer
+      reply-fits l e = ap (judged m olds) d ∙ judged-fits m olds row st q l (seen-uncut row st q (l ∙ many) (seen-inv w m (pos v) s (row ∷ st) q d)) e
 
 -- ---- 2, before the bytes are looked at
 
@@ -153,11 +167,11 @@ module _ (m : Message) (h : proper m ≡ true) (few : slim m ≡ true) (w : Bool
 
   -- the bytes are refused
   pub answers-no : (c : Refusal) → bad c ≡ run scratch → (refused c, olds) ≡ readAnswer w m (pos v) olds s
-  answers-no c e = sym (read-refused m (pos v) s olds w c (seen-bad m h w v s scratch also known size c (ended-no w (shape m v) (thin .0) (thin .1) s size scratch e)))
+  answers-no c e = sym (read-refused m (pos v) s olds w c (seen-bad m h w v s scratch also known size c (ended-no w (shape m v) (thin .0) (thin .1) s (omega (arith, size)) scratch e)))
 
   module _ (cs : List ℕ) (u : State) (q : ℕ) (first : ok (own cs ∷ u) q ≡ run scratch) where
     measured : Ended w (shape m v) s scratch cs u q
-    measured = ended w (shape m v) (thin .0) (thin .1) s size scratch first
+    measured = ended w (shape m v) (thin .0) (thin .1) s (omega (arith, size)) scratch first
 
     of-message : (st : Tables) → readRows w append (shape m v) 0 ([] ∷ none-yet scratch) 0 s ≡ ok st q → readRows w append (shape m v) 0 (replicate (suc (m .tables)) []) 0 s ≡ ok st q
     of-message st e = ap (λ y. readRows w append (shape m v) 0 ([] ∷ y) 0 s) (sym (none-same scratch (m .tables) also)) ∙ e
@@ -188,7 +202,7 @@ module _ (m : Message) (h : proper m ≡ true) (few : slim m ≡ true) (w : Bool
       answers-fits e z d news f =
           let a = measured in
           let b = ap (λ y. readRows w append (shape m v) 0 ([] ∷ y) 0 s) (none-same olds (m .tables) many ∙ sym (none-same scratch (m .tables) also)) ∙ a .is in
-          let g = f _ _ (d ∙ runs-so w (shape m v) (thin .0) (thin .1) s size olds cs (a .rows) q b) in
+          let g = f _ _ (d ∙ runs-so w (shape m v) (thin .0) (thin .1) s (omega (arith, size)) olds cs (a .rows) q b) in
           ap (λ y. (accepted cs q, y)) (sym g ∙ slices-tabs (filled olds (a .rows)) (lengths (a .rows)))
           ∙ sym (reply-fits m h w v s olds many cs (a .rows) q (has-seen (cs ∷ a .rows) (a .is)) (a .long ∙ also ∙ sym many) (ap (λ ms. short (widths m) ms (lengths olds)) (sym (a .marks-are)) ∙ e))
 

@@ -12,3 +12,7 @@ tagShape = field natural (field (blob plain) end)
 abbrev pub tagsShape : Bool → ℕ → Shape
 tagsShape true t = array plain t tagShape end
 tagsShape false t = lacking plain t (absent natural (absent (blob plain) end)) end
+
+-- the same, shut: what readers promise names it, and laws open it
+unfoldable pub tagsIf : Bool → ℕ → Shape
+tagsIf f t = tagsShape f t

@@ -22,6 +22,12 @@ use primitives::numbers;
 use primitives::parts;
 use primitives::texts;
 
+// A number, and the place after it.
+pub struct Taken {
+    pub value: u64,
+    pub next: usize,
+}
+
 fn moved(n: Number, p: usize) -> Number
     requires { ⌜ Fits p (ofNumber n) ⌝ }
     ensures { λ r. ⌜ ofNumber r ≡ fromPlace (λ d x. x) p (ofNumber n) ⌝ }

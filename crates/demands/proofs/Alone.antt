@@ -71,7 +71,7 @@ unfolding Kafka.varlong
 fair-varlong s e h = fair-unsigned s e (given-bad Kafka.unsigned unzigzag s e h)
 
 -- a primitive refuses at its start
-at-start : (s : List ℕ) (n : ℕ) (e : Refusal) → 1 ≤ n → n ≤ 13 → because n 0 ≡ e → Fair (length s) e
+at-start : (s : List ℕ) (n : ℕ) (e : Refusal) → 1 ≤ n → n ≤ 14 → because n 0 ≡ e → Fair (length s) e
 at-start s n e a b x = subst (Fair (length s)) x (record { least = a; greatest = b; place-in = omega arith; no-need = λ h. refl })
 
 fair-varint : FairRead Kafka.varint

@@ -65,7 +65,7 @@ module _ {N A : Type 0} (F : Answer → N) (number place need : N → ℕ) (acce
       inr (
         record {
           least = subst (λ (k : ℕ). 1 ≤ k) (sym (x .0)) (h .0 .least);
-          greatest = subst (λ (k : ℕ). k ≤ 13) (sym (x .0)) (h .0 .greatest);
+          greatest = subst (λ (k : ℕ). k ≤ 14) (sym (x .0)) (h .0 .greatest);
           place-in = subst (λ (k : ℕ). k ≤ size) (sym (x .1)) (h .0 .place-in);
           no-need = λ n. subst (λ (k : ℕ). k ≡ 0) (sym (x .2)) (h .0 .no-need (λ e. n (x .0 ∙ e)));
         },
@@ -73,7 +73,7 @@ module _ {N A : Type 0} (F : Answer → N) (number place need : N → ℕ) (acce
       )
 
   -- a struct r, and what was lent after the call, that the promise `told F o` allows
-  of-told : (size : ℕ) (before : A) (o : Answer × A) → Answered size before (o .1) (o .0) → (r : N) (after : A) → (r, after) ≡ told F o → InNumbers size before after (number r) (place r) (need r)
+  pub of-told : (size : ℕ) (before : A) (o : Answer × A) → Answered size before (o .1) (o .0) → (r : N) (after : A) → (r, after) ≡ told F o → InNumbers size before after (number r) (place r) (need r)
   unfolding told
   of-told size before o h r after p = subst (λ (y : N × A). InNumbers size before (y .1) (number (y .0)) (place (y .0)) (need (y .0))) (sym p) (of-answer size before (o .1) (o .0) h)
 

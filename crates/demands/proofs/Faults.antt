@@ -59,7 +59,7 @@ basic-most (text z) x = sized-most (keeps z) z (λ y. unless (utf8 y) 7) (λ y. 
 basic-most (blob z) x = sized-most (keeps z) z (λ y. 0) (λ y. omega arith) x
 basic-most (optional d k) x = basic-most k x
 
-fault-most : (l : Shape) (x : Value (List ℕ) l) → fault l x ≤ 11
+pub fault-most : (l : Shape) (x : Value (List ℕ) l) → fault l x ≤ 11
 unfolding fault
 fault-most end x = omega arith
 fault-most (field k r) x = or-most 11 (basicFault k (x .0)) (fault r (x .1)) (basic-most k (x .0)) (fault-most r (x .1))
@@ -68,10 +68,10 @@ fault-most (array z t i r) x =
     or-most 11 (sizedFault (keeps z) z (λ xs. firstOf (fault i) xs) (x .0)) (fault r (x .1)) (sized-most (keeps z) z (λ xs. firstOf (fault i) xs) (λ xs. first-most 11 (fault i) (fault-most i) xs) (x .0)) (fault-most r (x .1))
 fault-most (lacking z t i r) x = fault-most r x
 
-pub at-zero : (n : ℕ) → 1 ≤ n → n ≤ 13 → Fair 0 (because n 0)
+pub at-zero : (n : ℕ) → 1 ≤ n → n ≤ 14 → Fair 0 (because n 0)
 at-zero n a b = record { least = a; greatest = b; place-in = omega arith; no-need = λ h. refl }
 
-is-bad : {A : Type 0} (n : ℕ) (e : Refusal) → 1 ≤ n → n ≤ 13 → _≡_ {A = Res A} (bad (because n 0)) (bad e) → Fair 0 e
+pub is-bad : {A : Type 0} (n : ℕ) (e : Refusal) → 1 ≤ n → n ≤ 14 → _≡_ {A = Res A} (bad (because n 0)) (bad e) → Fair 0 e
 is-bad n e a b h = let x : because n 0 ≡ e = cc in subst (Fair 0) x (at-zero n a b)
 
 -- what is offered: 2 where it is too long, and else its first fault

@@ -8,5 +8,7 @@ pub mod Demand2
 pub mod Numbers
 -- the third demand, of the calls that write and read whole an ApiVersions response
 pub mod Demand3
+-- the demands, of frames
+pub mod Framed
 -- what comes back of requests
 pub mod Requests

@@ -7,3 +7,5 @@ pub mod Returned
 pub mod Responses
 -- the own rows of requests that were written, as they come back
 pub mod Requests
+-- frames: what they mean, and how they come back
+pub mod Frames

@@ -8,7 +8,7 @@ use Rattle.layout.specs.Answers.{Answer, accepted, refused}
 -- a number of the table, a place in the message of `size` bytes, and a need with 10 alone. On writing `size` is 0, and so is the place
 pub record Fair (size : ℕ) (e : Refusal) : Type 0 where
   pub least : 1 ≤ e .number
-  pub greatest : e .number ≤ 13
+  pub greatest : e .number ≤ 14
   pub place-in : e .place ≤ size
   pub no-need : e .number ≢ 10 → e .need ≡ 0
 

@@ -1,10 +1,8 @@
 // Metadata responses: a body's own row is throttle time (kind, number), number of brokers, cluster (kind, start, length), controller (kind, number), number of topics.
 ghost use mathlib.Core.Path.{_≡_};
 ghost use mathlib.Core.List.{[], _∷_};
-ghost use lib.ListN.{getD};
 ghost use Rattle.layout.specs.Answers.{accepted, prefixRead};
 ghost use Rattle.layout.specs.Messages.Metadata as Meta;
-ghost use Rattle.body_reading.specs.Cells.{fieldCells};
 ghost use Rattle.metadata_response.specs.Answers.{ofResponse, ofResponseReply};
 ghost use Rattle.gateway.specs.Replies.{told};
 ghost use Rattle.gateway_metadata.specs.Replies.{metadataNumbers};
@@ -12,38 +10,6 @@ use crate::MetadataNumbers;
 use body_reading::cells;
 use metadata_response::ResponseBody;
 use metadata_response::ResponseReply;
-use primitives::Field;
-
-// 0 where it is absent, 1 where it is null, 2 where it is there.
-fn kind(f: Field) -> u64
-    ensures { λ r. ⌜ r ≡ getD (fieldCells f) 0 0 ⌝ }
-{
-    match f {
-        Field::Absent => 0,
-        Field::Null => 1,
-        Field::Present { start: _, len: _ } => 2,
-    }
-}
-
-fn start(f: Field) -> u64
-    ensures { λ r. ⌜ r ≡ getD (fieldCells f) 1 0 ⌝ }
-{
-    match f {
-        Field::Absent => 0,
-        Field::Null => 0,
-        Field::Present { start, len: _ } => start as u64,
-    }
-}
-
-fn length(f: Field) -> u64
-    ensures { λ r. ⌜ r ≡ getD (fieldCells f) 2 0 ⌝ }
-{
-    match f {
-        Field::Absent => 0,
-        Field::Null => 0,
-        Field::Present { start: _, len } => len as u64,
-    }
-}
 
 fn accepted(body: ResponseBody, used: usize) -> MetadataNumbers
     ensures { λ r. ⌜ r ≡ metadataNumbers (accepted (ofResponse body) used) ⌝ }
@@ -56,9 +22,9 @@ fn accepted(body: ResponseBody, used: usize) -> MetadataNumbers
         timed: cells::kind(throttle),
         throttle: cells::given(throttle, 0),
         brokers: body.brokers,
-        clustered: kind(cluster),
-        cstart: start(cluster),
-        clength: length(cluster),
+        clustered: cells::field_kind(cluster),
+        cstart: cells::field_start(cluster),
+        clength: cells::field_length(cluster),
         controlled: cells::kind(controller),
         controller: cells::given(controller, 0),
         topics: body.topics,

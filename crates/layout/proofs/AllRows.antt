@@ -242,7 +242,7 @@ module _ (m : Message) (h : proper m ≡ true) (F : ℕ → Bool) (v : ℕ) (kno
     named = in-from 1 (m .tables) (λ t. (eqb t 0 ≡ false) × (0 < rowWidth (kindOf t l))) (λ t a b. (apart t a, wide t a (omega arith)));
   }
 
-  module _ (w : Bool) (s : List ℕ) (st : Tables) (n : ℕ) (short : length s ≤ most) (d : readRows w append l 0 (replicate (suc (m .tables)) []) 0 s ≡ ok st n) where
+  module _ (w : Bool) (s : List ℕ) (st : Tables) (n : ℕ) (short : length s ≤ most + 4) (d : readRows w append l 0 (replicate (suc (m .tables)) []) 0 s ≡ ok st n) where
     holds : Holds w l s n st
     holds = tables-hold w l (suc (m .tables)) s st n (omega arith) (owes .names) (owes .free) (owes .tree) d
 
@@ -250,7 +250,7 @@ module _ (m : Message) (h : proper m ≡ true) (F : ℕ → Bool) (v : ℕ) (kno
     pub good-again : good (length s) (m .tables) (shape m 0) st ≡ true
     good-again = o .judged (length s) st ∙ read-good w (m .tables) l s n st writable holds (omega arith)
 
-  module _ (w : Bool) (lent : List ℕ) (st : Tables) (bs : List ℕ) (n : ℕ) (tables-lent : length st ≡ suc (m .tables)) (short : length bs ≤ most)
+  module _ (w : Bool) (lent : List ℕ) (st : Tables) (bs : List ℕ) (n : ℕ) (tables-lent : length st ≡ suc (m .tables)) (short : length bs ≤ most + 4)
       (lent-good : good (length lent) (m .tables) (shape m 0) st ≡ true) (d : Laid w l (suc (m .tables)) bs (meant lent st l) n) where
     own-back : shownRow bs l (getD (d .st) 0 []) ≡ settledRow lent l (getD st 0 [])
     own-back = own-settled w l (suc (m .tables)) lent st bs n (omega arith) (owes .names) (owes .eating) (omega arith) (owes .free) d (omega arith)

@@ -156,10 +156,13 @@ module _ {R : Type 0} (say : R → Answer × Tables) (only : (o : Answer × Tabl
 -- ---- what the tables hold
 
 module _ (m : Message) (h : proper m ≡ true) where
+  pub tables-of : (w : Bool) (v : ℕ) (s : List ℕ) (st : Tables) (n : ℕ) → v ≤ m .last → readRows w append (shape m v) 0 (replicate (suc (m .tables)) []) 0 s ≡ ok st n → Holds w (shape m v) s n st
+  tables-of w v s st n k e =
+      let o = owed m h v k in
+      tables-hold w (shape m v) (suc (m .tables)) s st n (omega arith) (o .names) (o .free) (o .tree) e
+
   pub tables-are : (w : Bool) (v : ℤ) (s : List ℕ) (st : Tables) (n : ℕ) → (d : Seen w m v s st n) → Holds w (shape m (d .version)) s n st
-  tables-are w v s st n d =
-      let o = owed m h (d .version) (d .known) in
-      tables-hold w (shape m (d .version)) (suc (m .tables)) s st n (omega arith) (o .names) (o .free) (o .tree) (d .reads)
+  tables-are w v s st n d = tables-of w (d .version) s st n (d .known) (d .reads)
 
   -- every text and every data that is shown lies inside the message
   pub parts-inside : (w : Bool) (v : ℤ) (s : List ℕ) (st : Tables) (n : ℕ) → (d : Seen w m v s st n) → Every minus (λ t. t .0 + t .1 ≤ length s) (shape m (d .version)) (tables-are w v s st n d .x)

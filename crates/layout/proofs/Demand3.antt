@@ -56,7 +56,7 @@ module _ (v : ℕ) (known : v ≤ 3) where
       let z : ok (meant s st l) (length s) ≡ ok x (length s) = sym (means-again true s st (length s) short d) ∙ t .0 in
       let same : meant s st l ≡ x = cc in
       let bytes-are : write l (meant s st l) ≡ s = ap (write l) same ∙ t .1 ∙ take-length s in
-      let good = good-again Api.response api-response (responseTables v) v known (api-response-follows v known) true s st (length s) short d in
+      let good = good-again Api.response api-response (responseTables v) v known (api-response-follows v known) true s st (length s) (omega (arith, short)) d in
       rw (le-true v 3 known, good, clean-again true s st (length s) short d b, bytes-are, le-true (length s) most short)
 
 -- ---- at most one layout

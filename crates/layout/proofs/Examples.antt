@@ -17,7 +17,9 @@ use Rattle.layout.specs.Answers.{Answer, accepted, body, laid, made, mea
 use Rattle.layout.specs.Agreement as Agreement
 use Rattle.layout.specs.Lookup as Lookup
 use Rattle.layout.specs.Messages.ApiVersions as Api
+use Rattle.layout.specs.Frames.{frameMade, frameRead, frameSeen, frameSize, frameWritten}
 use Rattle.layout.specs.Messages.Fetch as Fetch
+use Rattle.layout.specs.Messages.Headers as Headers
 use Rattle.layout.specs.Messages.Metadata as Metadata
 
 -- what comes out: a primitive's bytes; its number, or its cells, with the bytes used; a refusal; a call's answer with the tables or the output behind it
@@ -196,6 +198,19 @@ others =
     (reads (prefixRead Metadata.response (pos 4) metadata-room []), no 3 0 0 metadata-room) ∷
     (reads (prefixRead Metadata.response (pos 5) metadata-room []), no 1 0 0 metadata-room) ∷
     (reads (prefixRead Metadata.response (negsuc 0) metadata-room []), no 1 0 0 metadata-room) ∷
+    -- frames: a request with header 2, a tag and a body of one byte, and a byte after it; a response with header 0 and bytes of the next frame after it; one whose bytes are not all there
+    (reads (frameRead Headers.request (pos 2) (replicate 3 7 ∷ []) (hex 21 0x00000010_0012_0003_00000007_0001_67_01_05_01_41_FF_00)), told (18 ∷ 3 ∷ 7 ∷ 2 ∷ 14 ∷ 1 ∷ 1 ∷ 19 ∷ 1 ∷ []) 20 ((5 ∷ 18 ∷ 1 ∷ []) ∷ [])) ∷
+    (reads (frameRead Headers.response (pos 0) ([] ∷ []) (hex 12 0x00000006_00000007_ABCD_0000)), told (7 ∷ minus ∷ 8 ∷ 2 ∷ []) 10 ([] ∷ [])) ∷
+    (reads (frameRead Headers.response (pos 0) ([] ∷ []) (hex 8 0x00000006_00000007)), no 3 0 0 ([] ∷ [])) ∷
+    -- sizes of −1, of 1,048,577 and of 3, whose header is cut although more bytes are lent; request header 0
+    (reads (frameRead Headers.response (pos 0) ([] ∷ []) (hex 8 0xFFFFFFFF_00000007)), no 14 0 0 ([] ∷ [])) ∷
+    (reads (frameRead Headers.response (pos 0) ([] ∷ []) (hex 8 0x00100001_00000007)), no 14 0 0 ([] ∷ [])) ∷
+    (reads (frameRead Headers.response (pos 0) ([] ∷ []) (hex 8 0x00000003_00000007)), no 3 4 0 ([] ∷ [])) ∷
+    (reads (frameRead Headers.request (pos 0) ([] ∷ []) []), no 1 0 0 ([] ∷ [])) ∷
+    -- written: an unset client name is null; a tag in response header 1, and too little room for it
+    (writes (frameWritten Headers.request (pos 1) [] ((18 ∷ 3 ∷ 7 ∷ 0 ∷ 0 ∷ 0 ∷ minus ∷ []) ∷ [] ∷ []) [] (replicate 15 7)), told [] 14 ((hex 14 0x0000000A_0012_0003_00000007_FFFF ++ (7 ∷ [])) ∷ [])) ∷
+    (writes (frameWritten Headers.response (pos 1) (hex 1 0x41) ((7 ∷ 1 ∷ []) ∷ (5 ∷ 0 ∷ 1 ∷ []) ∷ []) (hex 1 0xAB) (replicate 13 7)), told [] 13 (hex 13 0x00000009_00000007_01_05_01_41_AB ∷ [])) ∷
+    (writes (frameWritten Headers.response (pos 1) (hex 1 0x41) ((7 ∷ 1 ∷ []) ∷ (5 ∷ 0 ∷ 1 ∷ []) ∷ []) (hex 1 0xAB) (replicate 11 7)), no 10 0 13 (replicate 11 7 ∷ [])) ∷
     -- agreement: the second row of key 1 is not looked at; Metadata down to −1; a list of nothing
     (rows (Agreement.agreement (18 ∷ 0 ∷ 4 ∷ minus ∷ 3 ∷ minus ∷ 0 ∷ minus ∷ 1 ∷ 0 ∷ 3 ∷ minus ∷ 1 ∷ 4 ∷ 4 ∷ minus ∷ [])), rows ((18 ∷ 3 ∷ 4 ∷ []) ∷ (3 ∷ 0 ∷ 0 ∷ []) ∷ (1 ∷ minus ∷ 3 ∷ []) ∷ [])) ∷
     (rows (Agreement.agreement []), rows ((18 ∷ minus ∷ minus ∷ []) ∷ (3 ∷ minus ∷ minus ∷ []) ∷ (1 ∷ minus ∷ minus ∷ []) ∷ [])) ∷
@@ -213,6 +228,7 @@ unfolding then give fail failAt pick here single raw pair many loop
     span cells width absentCells countCell readRows append pop count times itemsOf chosen slice spanOf basicOf valueOf rowWidth arrays kindIn kindOf chunks rowsOf firstRow rowsAt from all sum goodCount asked inside goodSpan goodCells goodRow addsUp good
     shape seen widths needed laid readAnswer prefixRead wholeRead meant body made writeAnswer
     Agreement.negative Agreement.smaller Agreement.reaches Agreement.highest Agreement.agreed Agreement.agreement Lookup.lookup
+    frameSize frameSeen frameRead frameMade frameWritten Headers.requestRows Headers.responseRows
     Api.requestRows Api.keyRows Api.responseRows
     Metadata.nameRows Metadata.requestRows Metadata.brokerRows Metadata.nodeRows Metadata.partitionRows Metadata.topicRows Metadata.responseRows
     Fetch.askRows Fetch.askTopicRows Fetch.requestRows Fetch.abortedRows Fetch.partitionRows Fetch.topicRows Fetch.responseRows

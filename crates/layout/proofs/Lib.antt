@@ -40,6 +40,9 @@ pub mod Returned
 -- ApiVersions responses: no body is good at two layouts, what was read is written again, and the mission's third demand
 pub mod Exclusive
 pub mod Demand3
+-- frames: what is after one has no part; what was written comes back
+pub mod Frames
+pub mod Headers
 -- version agreement and address lookup
 pub mod FirstRow
 pub mod Agreed

@@ -86,7 +86,7 @@ tells-part {X} t make n = record {
         subst (Told p s) x (record { least = omega arith; greatest = omega arith; behind = omega arith; before-end = omega (arith, front-fits b); no-need = refl })
 
 -- readers that are local and tell so: every step keeps it
-telling : Kept (λ A r q. Local r × Tells r)
+pub telling : Kept (λ A r q. Local r × Tells r)
 unfolding give fail here pick
 telling = record {
   on-give = λ x. (locals .on-give x, record { law = λ p s e d. not-ok (sym d) });

@@ -81,7 +81,7 @@ comes-back m h F o v lent st out r n after as-many e w =
       known = known;
       su = c .su w;
       is-seen = c .is-seen w;
-      rows = returned m h (F v) v known (o v known) w lent st bs (length bs) as-many (s .short) (g .good-tables) (record { st = c .su w; reads = reads; means = c .equal w });
+      rows = returned m h (F v) v known (o v known) w lent st bs (length bs) as-many (let k = s .short in omega arith) (g .good-tables) (record { st = c .su w; reads = reads; means = c .equal w });
     }
 
 -- ---- in numbers

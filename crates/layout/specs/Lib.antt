@@ -13,6 +13,8 @@ pub mod Write
 pub mod Tables
 -- the whole reply of every call
 pub mod Answers
+-- frames: size, header and body
+pub mod Frames
 -- what comes back of what was written, cell by cell
 pub mod Settled
 -- the rows of each message

@@ -2,3 +2,5 @@
 pub mod ApiVersions
 pub mod Metadata
 pub mod Fetch
+-- headers, and which of them a message has
+pub mod Headers

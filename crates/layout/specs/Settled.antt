@@ -13,6 +13,7 @@ use Rattle.layout.specs.Primitives.{minus, Size, fixed, compact, plain, 
 use Rattle.layout.specs.Rows.{Basic, number, boolean, level, natural, text, blob, optional, Shape, end, field, absent, array, lacking}
 use Rattle.layout.specs.Tables.{Tables, kindOf, rowsAt, slice, width}
 use Rattle.layout.specs.Answers.{Message, seen, shape}
+use Rattle.layout.specs.Frames.{Header, frameSeen, withSize}
 
 -- a cell; or, in place of a start and a length, the bytes that they show
 pub data Shown : Type 0 where
@@ -112,3 +113,20 @@ requestTables v t = leb 3 v
 -- Metadata and Fetch requests have all their tables at every version
 abbrev pub allTables : ℕ → ℕ → Bool
 allTables v t = true
+
+-- ---- a frame that was written and is read again
+
+-- With header number v, whatever bytes follow the frame: the header's row and tags as they were lent, settled, with the size before them; and after the header the body
+pub record FrameBack (h : Header) (F : ℕ → ℕ → Bool) (v : ℕ) (lent row : List ℕ) (tags : Tables) (rest frame : List ℕ) : Type 0 where
+  pub su : Tables
+  pub used : ℕ
+  pub is-seen : (t : List ℕ) → frameSeen h (pos v) (frame ++ t) ≡ ok ((drop 1 (getD su 0 []) ++ (used ∷ length rest ∷ [])) ∷ drop 1 su) (length frame)
+  pub rows : Returned (withSize (h .rows)) (F v) v lent (((length frame - 4) ∷ row) ∷ tags) frame su
+  pub body-is : drop used frame ≡ rest
+
+-- Request header 2 and response header 1 have tags
+abbrev pub requestHeaderTables : ℕ → ℕ → Bool
+requestHeaderTables v t = leb 2 v
+
+abbrev pub responseHeaderTables : ℕ → ℕ → Bool
+responseHeaderTables v t = leb 1 v

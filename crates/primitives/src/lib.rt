@@ -37,6 +37,11 @@ pub const TOO_WIDE: u8 = 11;
 // 12 has no case: a seven-bit group always fits a byte.
 pub const BAD_TABLES: u8 = 13;
 
+pub const BAD_SIZE: u8 = 14;
+
+// The cell of -1: what is unset or absent, or null, where a cell says how many.
+pub const MINUS_ONE: u64 = 18446744073709551615;
+
 // No message and no written body has more bytes.
 pub const MOST: usize = 1048576;
 

@@ -1,18 +1,18 @@
 -- Tags read: the row of one, their number and the tags at the end of a row, and the whole reply of the call, from what the measuring and the filling walk came to.
 use mathlib.Core.Bool.{Bool, false, true}
 use mathlib.Core.List.{List, [], _++_, _∷_}
-use mathlib.Core.Path.{_∙_, _≡_, ap, refl, sym}
+use mathlib.Core.Path.{_∙_, _≡_, ap, refl, subst, sym}
 use Prim.Native.Nat.{_+_, _-_, _/_, _<_, _≤_, ℕ}
 use native.Mathlib.Omega.{arith}
 use lib.ListN.{getD, length}
 use lib.IntN.{pos}
-use Rattle.layout.specs.Reading.{Reader, Refusal, bad, because, loop, ok, pair}
-use Rattle.layout.specs.Primitives.{plain, unsigned}
+use Rattle.layout.specs.Reading.{Reader, Refusal, Res, bad, because, loop, ok, pair}
+use Rattle.layout.specs.Primitives.{minus, plain, unsigned}
 use Rattle.layout.specs.Rows.{Shape, Value, at, blob, end, standing, stands, tagRows}
 use Rattle.layout.specs.Read.{byPlace, read, readBasic, readBlob}
-use Rattle.layout.specs.Tables.{Span, all, arrays, cells, countCell, from, kindIn, kindOf, rowWidth, span, width}
+use Rattle.layout.specs.Tables.{Span, all, arrays, cells, countCell, from, kindIn, kindOf, readRows, rowWidth, span, width}
 use Rattle.body_reading.specs.Store.{State, Tab, add, own, put, store, tab}
-use Rattle.body_reading.specs.Tagged.{tagShape, tagsShape}
+use Rattle.body_reading.specs.Tagged.{tagShape, tagsIf, tagsShape}
 use Rattle.body_reading.specs.Walk.{Place, Places, Runs, on, walk}
 use Rattle.primitives.specs.Answers.{noRoom, ofRefusal}
 use Rattle.primitives.specs.declared.Refusal as Code
@@ -147,3 +147,20 @@ module _ (s l : List ℕ) (size : length s ≤ 1048576) (t₀ t₁ : List ℕ) (
         holds : (r₂ : Walked) (x : State) (m : ℕ) → inTablesIs l₂ r₂ (false, alone, own []) ≡ ok x m → slices x ≡ l₂ ∷ []
         holds (Walked.Took c u j) x m i = let y : own (c ∷ []) ∷ tab l₂ j ∷ [] ≡ x = cc in ap slices (sym y)
         holds (Walked.Refused c) x m i = not-ok i
+
+-- ---- tags, where the version has them
+
+module _ (f : Bool) (s : List ℕ) (p : ℕ) (l : List ℕ) (k : ℕ) where
+  of-flag : (b : Bool) → f ≡ b → (g : Bool × Places × Tab → Res State) → Runs (λ e. walk (e .0) (tagsIf b (e .1 .t)) (e .1 .o)) s p (inTables l k) g → Runs (λ e. walk (e .0) (tagsIf f (e .1 .t)) (e .1 .o)) s p (inTables l k) g
+  of-flag b e g h = subst (λ (x : Bool). Runs (λ e. walk (e .0) (tagsIf x (e .1 .t)) (e .1 .o)) s p (inTables l k) g) (sym e) h
+
+  pub tags-there : f ≡ true → (l′ : List ℕ) (r : Walked) → Runs (λ e. walk (e .0) (tagsShape true (e .1 .t)) (e .1 .o)) s p (inTables l k) (inTablesIs l′ r) →
+      Runs (λ e. walk (e .0) (tagsIf f (e .1 .t)) (e .1 .o)) s p (inTables l k) (inTablesIs l′ r)
+  unfolding tagsIf standing stands
+  tags-there e l′ r h = of-flag true e (inTablesIs l′ r) (record { law = λ e. h .law e })
+
+  pub tags-lacking : f ≡ false → Runs (λ e. walk (e .0) (tagsIf f (e .1 .t)) (e .1 .o)) s p (inTables l k) (inTablesIs l (Walked.Took minus p k))
+  unfolding tagsIf standing readRows
+  tags-lacking e = of-flag false e (inTablesIs l (Walked.Took minus p k)) (record {
+    law = λ e. ap (λ (u : State). ok u p) (sym (e .1 .row-law (e .2) (tab l k) (minus ∷ []))) ∙ row-end (e .0) (e .1 .o) (add (e .1 .o) (minus ∷ []) (inTables l k e)) s p;
+  })

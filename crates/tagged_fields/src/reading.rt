@@ -6,12 +6,13 @@ ghost use lib.IntN.{pos};
 ghost use Rattle.layout.specs.Reading.{loop};
 ghost use Rattle.layout.specs.Read.{byPlace, read};
 ghost use Rattle.layout.specs.Answers.{prefixRead, tagsAlone};
-ghost use Rattle.body_reading.specs.Tagged.{tagShape, tagsShape};
+ghost use Rattle.body_reading.specs.Tagged.{tagShape, tagsIf, tagsShape};
 ghost use Rattle.body_reading.specs.Walk.{Runs, on, walk};
 ghost use Rattle.tagged_fields.specs.Read.{inTable, inTableIs, inTables, inTablesIs, ofTag, ofTagged};
 use body_reading::places::data_at;
 use body_reading::places::varint_at;
 use body_reading::tables::store3;
+use primitives::MINUS_ONE;
 use primitives::MOST;
 use primitives::Number;
 use primitives::Part;
@@ -126,6 +127,20 @@ pub fn tag_buffer_at(s: &[u8], p: usize, table: &mut [u64], mark: usize) -> Walk
             Tags::Refused(e) => Walked::Refused(e),
         },
         Number::Refused(e) => Walked::Refused(e),
+    }
+}
+
+// Tagged fields at the end of a row, where the version has them.
+pub fn tags_if(s: &[u8], p: usize, flexible: bool, table: &mut [u64], mark: usize) -> Walked
+    ensures { λ r. ⌜ Runs (λ e. walk (e .0) (tagsIf flexible (e .1 .t)) (e .1 .o)) (now (s .entry)) p (inTables (now (table .entry)) mark) (inTablesIs (now (table .exit)) r) ⌝ }
+{
+    if flexible {
+        return tag_buffer_at(s, p, table, mark);
+    }
+    Walked::Took {
+        count: MINUS_ONE,
+        used: p,
+        mark,
     }
 }
 

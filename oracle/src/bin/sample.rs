@@ -1,12 +1,13 @@
 //! sample SEED CASES EXPECTED
 //! sample letters CASES EXPECTED
+//! sample frames CASES EXPECTED
 //!
 //! A list to store and replay without Rust: the worked examples, then of every kind of case and answer a few; or some texts
-//! that are not well-formed.
+//! that are not well-formed; or some frames.
 use oracle::case::Case;
 use oracle::judge::{judge, Verdict};
 use oracle::line::{Lent, Word};
-use oracle::make::{self, examples, letters, rng::Rng};
+use oracle::make::{self, examples, frames, letters, rng::Rng};
 use oracle::model::write::Own;
 use std::collections::BTreeMap;
 use std::io::Result;
@@ -25,14 +26,15 @@ type Lines = (Vec<u8>, Vec<u8>);
 fn main() -> ExitCode {
     let words: Vec<String> = std::env::args().skip(1).collect();
     let asked = match &words[..] {
-        [list, cases, expected] if list == "letters" => Some(run_letters(cases, expected)),
+        [list, cases, expected] if list == "letters" => Some(run_list(&letters::stored(), cases, expected)),
+        [list, cases, expected] if list == "frames" => Some(run_list(&frames::stored::stored(), cases, expected)),
         [seed, cases, expected] => seed.parse().ok().map(|seed| run(seed, cases, expected)),
         _ => None,
     };
     match asked {
         Some(Ok(())) => ExitCode::SUCCESS,
         Some(Err(e)) => failed(&e.to_string()),
-        None => failed("sample SEED CASES EXPECTED, or sample letters CASES EXPECTED"),
+        None => failed("sample SEED CASES EXPECTED, or sample letters or frames CASES EXPECTED"),
     }
 }
 
@@ -59,8 +61,8 @@ fn run(seed: u64, cases: &str, expected: &str) -> Result<()> {
     Ok(())
 }
 
-fn run_letters(cases: &str, expected: &str) -> Result<()> {
-    let taken: Vec<Lines> = letters::stored().iter().map(|case| lines(case, &agreed(case))).collect();
+fn run_list(list: &[Case], cases: &str, expected: &str) -> Result<()> {
+    let taken: Vec<Lines> = list.iter().map(|case| lines(case, &agreed(case))).collect();
     write(&taken, cases, expected)?;
     println!("{} inputs, {} bytes", taken.len(), taken.iter().map(length).sum::<usize>());
     Ok(())
@@ -127,8 +129,8 @@ fn kind(case: &Case, verdict: &Verdict) -> String {
         Ok(words) => {
             // Signs tell numbers apart where there are no rows to do so.
             let signs = answer.lent.is_empty();
-            // In front stands how many bytes were used or written, but not where a host is told.
-            let first = usize::from(!matches!(case, Case::Host { .. }));
+            // In front stands how many bytes were used or written, but not where a host or a header is told.
+            let first = usize::from(!matches!(case, Case::Host { .. } | Case::HeaderNumber { .. }));
             words.iter().skip(first).map(|word| shape_of_word(word, signs)).collect()
         }
         Err(no) => format!("{}{}", if no.place == 0 { "first" } else { "later" }, no.need.min(2)),
@@ -137,7 +139,8 @@ fn kind(case: &Case, verdict: &Verdict) -> String {
 }
 
 /// Primitives by their length, texts by what they begin with, Metadata requests by
-/// auto-creation, Fetch requests by the most bytes at 3 and by isolation at 4.
+/// auto-creation, Fetch requests by the most bytes at 3 and by isolation at 4, frames by
+/// their header and by whether there is a client name, header numbers by key and version.
 fn shape_of_case(case: &Case) -> String {
     match case {
         Case::Read { message, .. } => format!("{}", message.len().min(12)),
@@ -150,6 +153,11 @@ fn shape_of_case(case: &Case) -> String {
             [_, _, _, _, isolation, _] if *version == 4 => format!("{}", isolation.or(-1).clamp(-1, 2)),
             _ => String::new(),
         },
+        Case::ReadFrame { header, .. } => format!("{}", (*header).clamp(-1, 3)),
+        Case::WriteFrame { header, own, .. } => {
+            format!("{} {}", (*header).clamp(-1, 3), own.contains(&Own::Null) || own.contains(&Own::Absent))
+        }
+        Case::HeaderNumber { key, version, .. } => format!("{} {}", (*key).clamp(17, 19), (*version).clamp(2, 3)),
         _ => String::new(),
     }
 }

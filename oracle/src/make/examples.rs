@@ -1,6 +1,6 @@
 //! The worked examples E1 to E12 and the further ones that are calls here: docs/RULES.md, section 12. Each has the answer
 //! that the page gives, written down by hand, so the model is held against it too (tests/examples.rs).
-use super::Section;
+use super::{frames, Section};
 use crate::calls::{ReadBody, WriteBody, FETCH_READ, FETCH_REQUEST_WRITE, METADATA_READ, METADATA_REQUEST_WRITE};
 use crate::calls::{PRIMITIVES, REQUEST_WRITE, RESPONSE_READS, RESPONSE_WRITE};
 use crate::case::Case;
@@ -13,7 +13,7 @@ pub fn section() -> Section {
 /// Each case with the line that answers it.
 pub fn all() -> Vec<(Case, &'static str)> {
     let older = [primitives(), responses(), further(), metadata(), lookups(), metadata_requests()];
-    older.into_iter().chain([fetch(), fetch_requests()]).flatten().collect()
+    older.into_iter().chain([fetch(), fetch_requests(), frames::examples::all()]).flatten().collect()
 }
 
 fn bytes(hex: &str) -> Vec<u8> {

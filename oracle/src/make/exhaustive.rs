@@ -1,9 +1,10 @@
 //! All strings of a kind, each given to every call of a list.
 use super::Section;
 use crate::calls::{
-    Named, ReadBody, FETCH_READ, METADATA_READ, PRIMITIVES, REQUEST_READ, RESPONSE_READS, TAGGED_FIELDS,
+    Named, ReadBody, ReadFrame, FETCH_READ, METADATA_READ, PRIMITIVES, REQUEST_READ, RESPONSE_READS, TAGGED_FIELDS,
 };
 use crate::case::Case;
+use crate::model::frames::TAG;
 use std::ops::RangeInclusive;
 
 /// Bytes that tell things apart: ends of counts and lengths, a letter, the first byte of a character.
@@ -18,6 +19,8 @@ pub enum Ask {
     Body(&'static ReadBody, i16),
     /// A lookup at a version.
     Host(i16),
+    /// A frame with a header of that number.
+    Frame(&'static ReadFrame, i64),
 }
 
 impl Ask {
@@ -29,17 +32,22 @@ impl Ask {
             Ask::Primitive(call) => Case::Read { call, message },
             Ask::Host(version) => Case::Host { version, node: [0, 1, 2, -1, -2][(turn % 5) as usize], message },
             Ask::Body(call, version) => {
-                let room = |(rank, width): (usize, &usize)| match (turn / 5u64.pow(rank as u32)) % 5 {
-                    0 => 2 * width,
-                    1 => *width,
-                    2 => 3 * width + 1,
-                    3 => width - 1,
-                    _ => 0,
-                };
-                let rooms = call.widths.iter().enumerate().map(room).collect();
+                let rooms = call.widths.iter().enumerate();
+                let rooms = rooms.map(|(rank, width)| room(*width, turn / 5u64.pow(rank as u32))).collect();
                 Case::ReadBody { call, version, rooms, message }
             }
+            Ask::Frame(call, header) => Case::ReadFrame { call, header, room: room(TAG, turn), message },
         }
+    }
+}
+
+fn room(width: usize, turn: u64) -> usize {
+    match turn % 5 {
+        0 => 2 * width,
+        1 => width,
+        2 => 3 * width + 1,
+        3 => width - 1,
+        _ => 0,
     }
 }
 
@@ -72,7 +80,7 @@ pub fn told_by_two() -> Vec<Ask> {
     let depends = |ask: &Ask| match ask {
         Ask::Primitive(call) => !long.contains(&call.read),
         Ask::Body(call, version) => call.last.is_none() || call.name == "request_read" && *version == 3,
-        Ask::Host(_) => false,
+        Ask::Host(_) | Ask::Frame(..) => false,
         Ask::WellFormed | Ask::IsText => true,
     };
     all().into_iter().filter(depends).collect()
@@ -106,7 +114,7 @@ pub fn of_words(list: Vec<(Ask, Vec<u8>)>, words: &'static [&'static [u8]], most
 }
 
 /// All strings of digits, from the shortest length on: the one of that index.
-fn digits(index: u64, letters: u64, shortest: u32) -> Vec<usize> {
+pub fn digits(index: u64, letters: u64, shortest: u32) -> Vec<usize> {
     let (mut rest, mut length) = (index, shortest);
     while rest >= letters.pow(length) {
         rest -= letters.pow(length);

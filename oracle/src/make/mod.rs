@@ -6,6 +6,7 @@ pub mod ends;
 pub mod examples;
 pub mod exhaustive;
 pub mod fetch;
+pub mod frames;
 pub mod letters;
 pub mod metadata;
 pub mod others;
@@ -75,7 +76,7 @@ fn cut(seed: u64, bodies: u64) -> Section {
 fn random(seed: u64, size: u64) -> Section {
     Section::new(size, move |index| {
         let rng = &mut Rng::new(seed ^ 2, index);
-        match rng.below(100) {
+        match rng.below(110) {
             0..=10 => reads::primitive(rng),
             11..=14 => reads::tagged_fields(rng),
             15..=24 => reads::response(rng),
@@ -90,7 +91,10 @@ fn random(seed: u64, size: u64) -> Section {
             62..=67 => metadata::host(rng),
             68..=74 => metadata::requests::request(rng),
             75..=88 => fetch::read(rng),
-            _ => fetch::requests::request(rng),
+            89..=99 => fetch::requests::request(rng),
+            100..=104 => frames::read(rng),
+            105..=108 => frames::write(rng),
+            _ => frames::number(rng),
         }
     })
 }
@@ -126,11 +130,25 @@ fn fixed(seed: u64) -> Vec<Section> {
         fetch::requests::pairs(),
         fetch::requests::sizes(),
         letters::section(),
+        frames::ends::sizes(),
+        frames::ends::cut_sizes(),
+        frames::ends::cuts(),
+        frames::ends::pairs(),
+        frames::ends::numbers(),
+        frames::ends::lengths(),
+        frames::ends::large(),
+        frames::ends::ill_formed(),
+        frames::ends::header_numbers(),
+        frames::written::ends(),
+        frames::written::rooms(),
+        frames::written::pairs(),
+        frames::written::sizes(),
+        frames::sizes_alone(),
     ]
 }
 
 /// The short run's fixed part: all strings of up to one byte for all reads, of two where a second can matter, of three and four
-/// telling bytes for primitives, and of up to four words for Metadata and Fetch.
+/// telling bytes for primitives, and of up to four words for Metadata, Fetch and frames.
 fn short_fixed(seed: u64) -> Vec<Section> {
     let mut sections = fixed(seed);
     sections.push(strings(all(), any_byte(), 0..=1));
@@ -144,6 +162,9 @@ fn short_fixed(seed: u64) -> Vec<Section> {
     sections.push(fetch::words(4));
     sections.push(fetch::crossed(seed, 2_000));
     sections.push(fetch::cut(seed, 300));
+    sections.push(frames::words(4));
+    sections.push(frames::crossed(seed, 2_000));
+    sections.push(frames::cut(seed, 300));
     sections
 }
 
@@ -160,7 +181,7 @@ pub fn short(seed: u64, count: u64) -> Result<Vec<Section>, u64> {
 }
 
 /// All strings of two bytes for all reads, of three bytes where a third can matter, of up to six telling bytes for
-/// primitives, of up to six words for Metadata and Fetch, and many random inputs.
+/// primitives, of up to six words for Metadata, Fetch and frames, and many random inputs.
 pub fn long(seed: u64) -> Vec<Section> {
     let mut sections = fixed(seed);
     sections.push(strings(all(), any_byte(), 0..=2));
@@ -174,6 +195,9 @@ pub fn long(seed: u64) -> Vec<Section> {
     sections.push(fetch::words(6));
     sections.push(fetch::crossed(seed, 200_000));
     sections.push(fetch::cut(seed, 30_000));
+    sections.push(frames::words(6));
+    sections.push(frames::crossed(seed, 100_000));
+    sections.push(frames::cut(seed, 30_000));
     sections.push(random(seed, 25_000_000));
     sections
 }

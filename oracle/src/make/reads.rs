@@ -78,7 +78,7 @@ pub fn body(rng: &mut Rng, call: &'static ReadBody, version: i16, message: Vec<u
     Case::ReadBody { call, version, rooms, message }
 }
 
-fn room(rng: &mut Rng, width: usize, need: usize) -> usize {
+pub fn room(rng: &mut Rng, width: usize, need: usize) -> usize {
     let room = match rng.below(24) {
         0 => 0,
         1 => need.saturating_sub(1),

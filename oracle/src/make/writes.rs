@@ -37,7 +37,7 @@ fn value(rng: &mut Rng, primitive: Primitive) -> Value {
     }
 }
 
-fn room(rng: &mut Rng, need: usize) -> usize {
+pub fn room(rng: &mut Rng, need: usize) -> usize {
     let room = match rng.below(16) {
         0 => 0,
         1 => need.saturating_sub(1),
@@ -53,7 +53,7 @@ fn room(rng: &mut Rng, need: usize) -> usize {
 #[derive(Default)]
 pub struct Lending {
     pub lent: Vec<u8>,
-    tags: Vec<i64>,
+    pub tags: Vec<i64>,
 }
 
 impl Lending {
@@ -71,7 +71,7 @@ impl Lending {
     }
 
     /// Rows of tags, and their count: now and then unset.
-    fn tagged(&mut self, rng: &mut Rng) -> i64 {
+    pub fn tagged(&mut self, rng: &mut Rng) -> i64 {
         if rng.one_in(4) {
             return -1;
         }
@@ -147,7 +147,7 @@ pub fn finished(
 }
 
 /// A cell, an own word, a byte, or the end of a table is no longer what it was.
-fn fault(rng: &mut Rng, lent: &mut Vec<u8>, own: &mut [Own], tables: &mut [Vec<i64>]) {
+pub fn fault(rng: &mut Rng, lent: &mut Vec<u8>, own: &mut [Own], tables: &mut [Vec<i64>]) {
     let table = rng.below(tables.len());
     match rng.below(6) {
         0 => damage(rng, lent),
@@ -158,7 +158,7 @@ fn fault(rng: &mut Rng, lent: &mut Vec<u8>, own: &mut [Own], tables: &mut [Vec<i
                 Own::Part(start, length) => Own::Part(start, strange(rng, length)),
                 Own::Number(n) => Own::Number(strange(rng, n)),
                 Own::Flag(flag) => Own::Flag(!flag),
-                Own::Absent => Own::Absent,
+                unset => unset,
             };
         }
         2 => {

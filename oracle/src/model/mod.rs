@@ -3,6 +3,7 @@
 pub mod agreement;
 pub mod api_versions;
 pub mod fetch;
+pub mod frames;
 pub mod metadata;
 pub mod primitives;
 pub mod text;
@@ -86,14 +87,17 @@ pub fn laid(rooms: &[usize], fronts: Option<Vec<Vec<i64>>>) -> Vec<Lent> {
 
 /// The reply to a write that has come as far as its bytes, and the output behind it: 2, then 10, then the bytes at the front.
 pub fn stored<'a>(made: Result<&[u8], Refusal>, room: usize) -> (Result<Vec<Word<'a>>, Refusal>, Lent) {
-    let judged = made.and_then(|bytes| {
+    let limited = made.and_then(|bytes| {
         judge_size(bytes.len())?;
-        if room < bytes.len() {
-            return Err(Refusal::no_room(bytes.len()));
-        }
         Ok(bytes)
     });
-    match judged {
+    output(limited, room)
+}
+
+/// 10, then the bytes at the front.
+fn output<'a>(made: Result<&[u8], Refusal>, room: usize) -> (Result<Vec<Word<'a>>, Refusal>, Lent) {
+    match made {
+        Ok(bytes) if room < bytes.len() => (Err(Refusal::no_room(bytes.len())), Lent::Output { room, front: vec![] }),
         Ok(bytes) => (Ok(vec![Word::Number(bytes.len() as i128)]), Lent::Output { room, front: bytes.to_vec() }),
         Err(no) => (Err(no), Lent::Output { room, front: vec![] }),
     }

@@ -12,6 +12,7 @@ pub enum Own {
     Part(i64, i64),
     /// A Boolean that is set.
     Flag(bool),
+    Null,
     /// Unset.
     Absent,
 }

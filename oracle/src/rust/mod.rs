@@ -1,6 +1,7 @@
 //! The given Rust, asked. It runs as it was given; a panic is heard like any other answer.
 pub mod api_versions;
 pub mod fetch;
+pub mod frames;
 pub mod metadata;
 pub mod primitives;
 

@@ -1,4 +1,5 @@
-//! forced: frame.rs names these four traits, `read_exact` and `write_all`. Nothing here is run: frames are outside the base.
+//! forced: frame.rs names these four traits, `read_exact` and `write_all`. Chosen: all bytes are there at once, and a `Vec`
+//! takes all that it is given, so that nothing waits.
 pub mod io {
     use std::future::Future;
     use std::io::{Read, Result, Write};

@@ -1,8 +1,8 @@
 -- A version that lacks tags has the cell of their absence in the row.
-use Rattle.api_versions_response.proofs.BareRows.{tags-lacking, tags-there}
+use Rattle.tagged_fields.proofs.Replies.{tags-lacking, tags-there}
 use borrow.Author.Needs.{needs}
-use Rattle.api_versions_response.proofs.items.tags_if.Statement.{statement}
-use Rattle.api_versions_response.proofs.items.tags_if.Tie as tie
+use Rattle.tagged_fields.proofs.reading.tags_if.Statement.{statement}
+use Rattle.tagged_fields.proofs.reading.tags_if.Tie as tie
 
 returns : tie.Need-returns
 returns c = tags-there _ _ _ _ _ (c .before .before .before .before .if1 .taken) _ (c .before .before .tag-buffer-at .result) (c .before .before .tag-buffer-at .ensures)

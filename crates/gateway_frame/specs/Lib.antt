@@ -1,0 +1,2 @@
+-- what the entry points hand back
+pub mod Replies

@@ -1,0 +1,184 @@
+//! Frames: a size, a header, and a body that is not looked into; request headers 1 and 2, response headers 0 and 1. Places and
+//! starts count from the frame's first byte. The one table is tags.
+use super::primitives::{Form, Null, Reader};
+use super::write::{Fields, Given, Own, Tables};
+use super::{judge_rooms, judge_size, output, Shown, LIMIT};
+use crate::line::{Lent, Refusal, Word};
+use crate::token::{contents, of_word, put_tags, Token};
+use std::borrow::Cow;
+
+/// The header numbers that there are: the last one has tags.
+#[derive(Debug, Clone, Copy, PartialEq, Eq)]
+pub struct Headers {
+    pub first: i64,
+    pub last: i64,
+}
+
+pub const REQUEST: Headers = Headers { first: 1, last: 2 };
+pub const RESPONSE: Headers = Headers { first: 0, last: 1 };
+
+/// The bytes of the size, which does not count them.
+pub const SIZE: usize = 4;
+/// Row width of the tag table.
+pub const TAG: usize = 3;
+const ABSENT_TAGS: i64 = -1;
+
+type Read<T> = Result<T, Refusal>;
+
+/// 1: an unknown header number.
+pub fn judge_header(known: Headers, header: i64) -> Result<(), Refusal> {
+    if (known.first..=known.last).contains(&header) {
+        Ok(())
+    } else {
+        Err(Refusal::at(1, 0))
+    }
+}
+
+/// The size, whatever it is; 3 where it is cut.
+pub fn size(bytes: &[u8]) -> Read<i64> {
+    Reader::new(bytes, 0).int(SIZE)
+}
+
+/// A reader of the frame's bytes alone, at its header: 3, 14, and 3 again where fewer bytes are there than the size says.
+fn opened(bytes: &[u8]) -> Read<Reader<'_>> {
+    let size = size(bytes)?;
+    if !(0..=LIMIT as i64).contains(&size) {
+        return Err(Refusal::at(14, 0));
+    }
+    let frame = bytes.get(..SIZE + size as usize).ok_or(Refusal::at(3, 0))?;
+    Ok(Reader { at: SIZE, ..Reader::new(frame, 1) })
+}
+
+/// The header's own words, and what is left of the frame.
+fn closed<'a>(reader: Reader<'a>, mut own: Vec<Word<'a>>) -> Shown<'a> {
+    own.push(Word::Part(reader.at, &reader.message[reader.at..]));
+    Shown { used: reader.message.len(), own, tables: reader.tables }
+}
+
+fn number<'a>(n: i64) -> Word<'a> {
+    Word::Number(n.into())
+}
+
+fn tags_if(reader: &mut Reader, has: bool) -> Read<i64> {
+    if has {
+        reader.tagged_fields(0)
+    } else {
+        Ok(ABSENT_TAGS)
+    }
+}
+
+/// A request's frame. At 0 there is no client name; that header is not known, and is read for the comparison alone.
+pub fn read_request(header: i16, bytes: &[u8]) -> Read<Shown<'_>> {
+    let mut reader = opened(bytes)?;
+    let [key, version, correlation] = [reader.int(2)?, reader.int(2)?, reader.int(4)?];
+    let client = if header >= 1 { reader.text(Form::Int16, Null::Kept)? } else { Word::Absent };
+    let tags = tags_if(&mut reader, header >= 2)?;
+    Ok(closed(reader, vec![number(key), number(version), number(correlation), client, number(tags)]))
+}
+
+pub fn read_response(header: i16, bytes: &[u8]) -> Read<Shown<'_>> {
+    let mut reader = opened(bytes)?;
+    let correlation = reader.int(4)?;
+    let tags = tags_if(&mut reader, header >= 1)?;
+    Ok(closed(reader, vec![number(correlation), number(tags)]))
+}
+
+/// The order of refusals on reading: 1, what the bytes gave, 10. The bytes may be more than the limit.
+pub fn in_order<'s, 'a>(header: Read<()>, bytes: &'s Read<Shown<'a>>, room: usize) -> Read<&'s Shown<'a>> {
+    header?;
+    let shown = bytes.as_ref().map_err(|no| *no)?;
+    judge_rooms(shown, &[TAG], &[room])?;
+    Ok(shown)
+}
+
+/// What a read of a frame showed, spelled: the numbers, the client name of a request, tags, and the body.
+pub fn spell<'a>(shown: &Shown<'a>, bytes: &'a [u8]) -> Vec<Token<'a>> {
+    let [numbers @ .., Word::Number(tags), body] = &shown.own[..] else { unreachable!() };
+    let mut tokens: Vec<Token> = numbers.iter().map(|word| of_part(word, bytes)).collect();
+    put_tags(&mut tokens, *tags, &mut shown.tables[0].chunks_exact(TAG), bytes);
+    tokens.push(of_part(body, bytes));
+    tokens
+}
+
+/// A part by the start and the length that it shows.
+fn of_part<'a>(word: &Word<'a>, bytes: &'a [u8]) -> Token<'a> {
+    match word {
+        Word::Part(start, part) => Token::Contents(Cow::Borrowed(contents(bytes, &[*start as i64, part.len() as i64]))),
+        word => of_word(word),
+    }
+}
+
+/// A request's header to write: own words API key, version, correlation number, client name and tag count. At 0 as on reading.
+pub fn write_request(header: i16, given: &Given) -> Result<Vec<u8>, Refusal> {
+    let [key, version, correlation, client, Own::Number(tags)] = given.own else { unreachable!() };
+    let mut tables = Tables::new(given);
+    tables.inside(client);
+    judge_tags(tables, *tags)?;
+
+    let mut fields = Fields::default();
+    fields.int(2, key.or(0));
+    fields.int(2, version.or(0));
+    fields.int(4, correlation.or(0));
+    match client {
+        _ if header < 1 => {}
+        Own::Part(start, length) => fields.text(Form::Int16, given.range(*start, *length)),
+        _ => fields.null(Form::Int16),
+    }
+    put_tags_if(&mut fields, given, *tags, header >= 2);
+    fields.judged()
+}
+
+/// A response's header to write: own words correlation number and tag count.
+pub fn write_response(header: i16, given: &Given) -> Result<Vec<u8>, Refusal> {
+    let [correlation, Own::Number(tags)] = given.own else { unreachable!() };
+    judge_tags(Tables::new(given), *tags)?;
+
+    let mut fields = Fields::default();
+    fields.int(4, correlation.or(0));
+    put_tags_if(&mut fields, given, *tags, header >= 1);
+    fields.judged()
+}
+
+/// 13, of tags too that the header does not have.
+fn judge_tags(mut tables: Tables, count: i64) -> Result<(), Refusal> {
+    tables.tag_count(count);
+    tables.tags_must_add_up(0);
+    tables.judged()
+}
+
+fn put_tags_if(fields: &mut Fields, given: &Given, count: i64, has: bool) {
+    if has {
+        fields.tagged_fields(given, &mut given.tag_rows(0), count);
+    }
+}
+
+/// Size, header and body.
+pub fn framed(header: &[u8], body: &[u8]) -> Vec<u8> {
+    let size = (header.len() + body.len()) as u32;
+    [&size.to_be_bytes(), header, body].concat()
+}
+
+/// The reply to a write that has come as far as the frame's bytes, and the output after it: 2, which does not count the size's
+/// own bytes, then 10, which does.
+pub fn stored<'a>(made: Result<&[u8], Refusal>, room: usize) -> (Result<Vec<Word<'a>>, Refusal>, Lent) {
+    let limited = made.and_then(|frame| {
+        judge_size(frame.len() - SIZE)?;
+        Ok(frame)
+    });
+    output(limited, room)
+}
+
+/// Which header a request has, by its API key and version.
+pub fn request_number(key: i64, version: i64) -> i64 {
+    const API_VERSIONS: i64 = 18;
+    if key == API_VERSIONS && version >= 3 {
+        2
+    } else {
+        1
+    }
+}
+
+/// And a response.
+pub fn response_number(_key: i64, _version: i64) -> i64 {
+    0
+}
