@@ -243,7 +243,7 @@ befrolan_response_frame_numbers befrolan_read_response_frame(
     int64_t header,
     int64_t *tags, size_t tags_len);
 
-/* Writes a frame: the size, the header of that number, and `body` as it is: it is not looked into, and may be empty. `row` of a
+/* Writes a frame: the size, the header of that number, and `body` as it is: it is not read, and may be empty. `row` of a
  * request: API key, version, correlation number; kind, start and length of the client's name; number of tags. `row` of a
  * response: correlation number, number of tags. The client's name is a part of `lent`; of kind 0, unset, and of kind
  * BEFROLAN_NULL it is written as null. The number of tags is BEFROLAN_UNSET for unset ones, which are written as none. Tags that

@@ -106,7 +106,7 @@ pub fn request(timed: bool, t: &mut Tables) {
     row(timed, "the same beside header.rs alone", one(frame.len()), || keep(ours()), || keep(header()));
 }
 
-/// A request with header 1 and a body of so many bytes, written.
+/// A request with header 1 and a body of this many bytes, written.
 pub fn written(timed: bool, length: usize) {
     let body: Vec<u8> = (0..length).map(|x| (x * 7) as u8).collect();
     let name = b"depot-7";

@@ -84,7 +84,7 @@ impl From<Refusal> for StreamError {
     }
 }
 
-/// A stream is asked for so many bytes at least, since small frames come together.
+/// A stream is asked for at least this many bytes, since small frames come together.
 const CHUNK: usize = 4096;
 
 /// Fewer bytes are there than the frame has.
@@ -130,7 +130,7 @@ impl FrameReader {
         }
     }
 
-    /// Room for so many bytes more. Those held are moved to the front where they are no more than those before them.
+    /// Room for this many bytes more. Those held are moved to the front where they are no more than those before them.
     fn spare(&mut self, bytes: usize) -> &mut [u8] {
         let held = self.to - self.from;
         if self.room.len() - self.to < bytes && held <= self.from {

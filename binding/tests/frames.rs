@@ -241,7 +241,7 @@ fn frames_that_arrive_together_are_handed_out_one_by_one() {
     }
 }
 
-/// Gives what it has, so many bytes at a time, and is interrupted before each.
+/// Gives what it has, a number of bytes at a time, and is interrupted before each.
 struct Slow<'a> {
     bytes: &'a [u8],
     step: usize,

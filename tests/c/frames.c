@@ -315,7 +315,7 @@ static void requests_written(void)
     WRITES(REQUEST, 1, C(18, 3, 7, 2, 1, 2, -1), no_cells, 0, COUNT(15), 0, 18, 0, 3, COUNT(7), 0, 2, 'm', 'e', BODY);
     WRITES(REQUEST, 2, C(18, 3, 7, 2, 1, 2, -1), no_cells, 0, COUNT(16), 0, 18, 0, 3, COUNT(7), 0, 2, 'm', 'e', 0, BODY);
     WRITES(REQUEST, 2, C(18, 3, 7, 2, 1, 2, 0), no_cells, 0, COUNT(16), 0, 18, 0, 3, COUNT(7), 0, 2, 'm', 'e', 0, BODY);
-    /* kinds: unset and null are null, and their cells are not looked at; any other is there; an empty name is no null */
+    /* kinds: unset and null are null, and their cells are not read; any other is there; an empty name is no null */
     WRITES(REQUEST, 2, C(18, 3, 7, 0, -9, 777, -1), no_cells, 0, COUNT(14), 0, 18, 0, 3, COUNT(7), 0xff, 0xff, 0, BODY);
     WRITES(REQUEST, 2, C(18, 3, 7, 1, -9, 777, -1), no_cells, 0, COUNT(14), 0, 18, 0, 3, COUNT(7), 0xff, 0xff, 0, BODY);
     WRITES(REQUEST, 1, C(18, 3, 7, 3, 3, 2, -1), no_cells, 0, COUNT(15), 0, 18, 0, 3, COUNT(7), 0, 2, 0xc3, 0xa9, BODY);

@@ -41,7 +41,7 @@ def asked(words):
 
 
 if not shutil.which("kcat"):
-    subprocess.run([ROOT / "tools/install", "kcat"])
+    subprocess.run(["timeout", "300", ROOT / "tools/install", "kcat"])
 if not shutil.which("kcat"):
     not_run("Debian's package kcat cannot be had here")
 subprocess.run([ROOT / "tools/staticlib"], check=True)

@@ -104,7 +104,7 @@ module _ (h : Header) (fit : proper (withSize (h .rows)) ≡ true) (v : ℕ) (s 
   abbrev reads : List ℕ → Res Tables
   reads w = readRows false append L 0 (noRows (h .rows)) 0 w
 
-  -- what a frame that is accepted says, before any room is looked at
+  -- what a frame that is accepted says, before any room is asked for
   record Seen (st : Tables) (n : ℕ) : Type 0 where
     taken : h .first ≤ v
     known : v ≤ h .rows .last
@@ -129,7 +129,7 @@ module _ (h : Header) (fit : proper (withSize (h .rows)) ≡ true) (v : ℕ) (s 
           record { taken = t; known = k; size = m; is-sized = i ∙ ap (λ (j : ℕ). ok m j) x; with-body = subst (λ (j : ℕ). withBody j (reads (take j s)) ≡ ok st n) x e }
       go t k (bad c) i e = not-ok e
 
-  -- the rows that were read, before the body is told
+  -- the rows that were read, before the body is added
   module _ (st : Tables) (n : ℕ) (d : Seen st n) where
     long : length (take n s) ≡ n
     long = length-take-le n s (size-inv s (d .size) n (d .is-sized) .there)

@@ -147,7 +147,7 @@ module _ (h : Header) (o : Ready h) (z : ℤ) (v : ℕ) (g : v ≡ versionOf z) 
         abbrev seen : Res Tables
         seen = readRows false append (shape m v) 0 ([] ∷ [] ∷ []) 0 w
 
-        -- what is made of the frame's bytes is judged
+        -- what is made of the frame's bytes, with the table
         in-frame : judged m (l ∷ []) (withBody all seen) ≡ reply
         unfolding frameRead frameSeen
         in-frame =
@@ -229,7 +229,7 @@ module _ (h : Header) (o : Ready h) (z : ℤ) (v : ℕ) (g : v ≡ versionOf z) 
                 none-filled (cs ∷ []) e = let c : length cs ≡ 0 = cc in ap (λ (ds : List ℕ). sets l 0 ds ∷ []) (nil cs c)
                 none-filled (cs ∷ ds ∷ st) e = let c : length cs ≡ 0 = cc in ap (λ (ds : List ℕ). sets l 0 ds ∷ []) (nil cs c)
 
-            -- the rows have room, and the second walk's answer is not looked at
+            -- the rows have room, and the second walk's answer is not used
             pub frame-took : k / 3 ≤ length (t₁ ++ l) / 3 → (l₂ : List ℕ) (f₂ : Tab → Res State) → ((x : State) (j : ℕ) → f₂ (own (n ∷ [])) ≡ ok x j → slices x ≡ l₂ ∷ []) → Walks (t₁ ++ l) f₂ → (accepted row all, l₂ ∷ []) ≡ reply
             frame-took j l₂ f₂ holds fill =
                 let b = runs-so false (shape m v) (thin .0) (thin .1) w size-w (l ∷ []) (n ∷ cs) (measured .rows) q (measured .is) in

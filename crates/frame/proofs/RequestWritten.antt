@@ -138,7 +138,7 @@ module _ (h : RequestHeader) (tags : List ℕ) where
     good-rows g = Tags.good-rows size (h .tags) tags (both (goodCells size clientField (fieldCells (h .«client_id»))) _ (sym is-good ∙ g) .1)
 
   module _ (lent : List ℕ) where
-    -- what stands after the client name
+    -- what comes after the client name
     client-left : (f : Field) → valueOf lent clientShape 0 (cells f ∷ tags ∷ []) .1 ≡ (h .tags ∷ []) ∷ tags ∷ []
     unfolding valueOf pop width
     client-left Field.Absent = refl

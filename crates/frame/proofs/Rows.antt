@@ -90,7 +90,7 @@ unfolding tagsIf shape at stands standing tagRows responseRows
 response-is = up-to 1 (λ n. field (number w32) (tagsIf (leb 1 n) 1) ≡ shape (Headers.response .rows) n) (refl, refl)
 
 module _ (n : ℕ) (a : 1 ≤ n) (b : n ≤ 2) (w l : List ℕ) (r : Front) (h : ofFront r ≡ on (rowFrom [] frontShape) w 4) where
-  -- the own row so far, and the tags
+  -- the header's row so far, and the tags
   abbrev start : Tab → State
   start t = t ∷ tab l 0 ∷ []
 

@@ -85,7 +85,7 @@ pub enum RequestWalked {
     Refused(Refusal),
 }
 
-// They start after the size.
+// The fields start after the size.
 fn front_of(frame: &[u8]) -> Front
     ensures { λ r. ⌜ ofFront r ≡ on (rowFrom [] frontShape) (now (frame .entry)) 4 ⌝ }
 {

@@ -28,7 +28,7 @@ module _ {N : Type 0} (f : Answer → N) (r : N) (a : Answer) (e : r ≡ f a) (h
   pub frame-told : (x olds : Tables) (s : List ℕ) → (a, x) ≡ frameRead h (toZ w64 (ofZ w64 z)) olds s → (r, x) ≡ told f (frameRead h z olds s)
   frame-told x olds s d = told-by f r a e x _ (d ∙ ap (λ (y : ℤ). frameRead h y olds s) (toZ-ofZ g))
 
-  -- and the own row as it was lent
+  -- and the row as it was lent
   pub frame-written-told : (lent own row : List ℕ) (st : Tables) (body out x : List ℕ) → own ≡ row → (a, x) ≡ frameWritten h (toZ w64 (ofZ w64 z)) lent (own ∷ st) body out → (r, x) ≡ told f (frameWritten h z lent (row ∷ st) body out)
   frame-written-told lent own row st body out x i d = told-by f r a e x _ (d ∙ ap₂ (λ (y : ℤ) (cs : List ℕ). frameWritten h y lent (cs ∷ st) body out) (toZ-ofZ g) i)
 

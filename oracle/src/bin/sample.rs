@@ -129,7 +129,7 @@ fn kind(case: &Case, verdict: &Verdict) -> String {
         Ok(words) => {
             // Signs tell numbers apart where there are no rows to do so.
             let signs = answer.lent.is_empty();
-            // In front stands how many bytes were used or written, but not where a host or a header is told.
+            // First comes how many bytes were used or written, except where a host or a header number is the answer.
             let first = usize::from(!matches!(case, Case::Host { .. } | Case::HeaderNumber { .. }));
             words.iter().skip(first).map(|word| shape_of_word(word, signs)).collect()
         }

@@ -1,4 +1,4 @@
-//! Frames: a size, a header, and a body that is not looked into; request headers 1 and 2, response headers 0 and 1. Places and
+//! Frames: a size, a header, and a body that is not read; request headers 1 and 2, response headers 0 and 1. Places and
 //! starts count from the frame's first byte. The one table is tags.
 use super::primitives::{Form, Null, Reader};
 use super::write::{Fields, Given, Own, Tables};

@@ -1,4 +1,4 @@
--- The size is read, and then judged: 14 before the bytes that follow are counted.
+-- The size is read, and then checked: 14 before the bytes that follow are counted.
 use mathlib.Core.Path.{_∙_, ap, sym}
 use Rattle.primitives.specs.Answers.{ofNumber}
 use Rattle.frame.proofs.Replies.{size-cut, size-no, size-over, size-sum, size-took}

@@ -1,4 +1,4 @@
--- Header and body are measured, judged and written after their size.
+-- Header and body are measured, checked and written after their size.
 use Rattle.layout.specs.Messages.Headers.{request}
 use Rattle.frame.proofs.RequestWritten.{request-rows}
 use Rattle.frame.proofs.Written.{frame-long, frame-short, frame-stored}

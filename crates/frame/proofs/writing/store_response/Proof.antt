@@ -1,4 +1,4 @@
--- Header and body are measured, judged and written after their size.
+-- Header and body are measured, checked and written after their size.
 use native.Mathlib.Omega.{arith}
 use Rattle.layout.specs.Messages.Headers.{response}
 use Rattle.frame.proofs.ResponseWritten.{response-rows}
