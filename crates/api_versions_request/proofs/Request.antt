@@ -5,7 +5,7 @@ use mathlib.Core.Path.{_∙_, _≡_, ap, refl, sym}
 use Prim.Native.Nat.{_+_, _-_, _/_, _<_, _^_, _≤_, min, ℕ}
 use native.Mathlib.Nat.{add-zero}
 use native.Mathlib.Omega.{arith}
-use lib.Dec.{eqb, leb, lit<, lit≤}
+use lib.Dec.{leb, lit<, lit≤}
 use lib.IntN.{ℤ}
 use lib.ListN.{length}
 use borrow.Rule.Slice.PartMut.{midOf, putMid}
@@ -13,8 +13,8 @@ use Rattle.layout.specs.Answers.{Answer, shape, writeAlone, writeAnswer}
 use Rattle.layout.specs.Messages.ApiVersions.{request, requestRows}
 use Rattle.primitives.proofs.Versions.{up-to}
 use Rattle.layout.specs.Primitives.{plain, sizedBytes}
-use Rattle.layout.specs.Rows.{absent, at, blob, end, natural, standing, stands, tagRows}
-use Rattle.layout.specs.Tables.{Tables, arrays, asked, basicOf, chosen, count, good, goodCells, goodCount, goodRow, goodSpan, inside, kindIn, kindOf, pop, rowWidth, slice, spanOf, valueOf, width}
+use Rattle.layout.specs.Rows.{at, end, standing, stands, tagRows}
+use Rattle.layout.specs.Tables.{Tables, arrays, asked, basicOf, chosen, count, good, goodCells, goodCount, goodRow, goodSpan, inside, kindIn, kindOf, pop, slice, spanOf, valueOf, width}
 use Rattle.layout.specs.Utf8.{utf8}
 use Rattle.layout.specs.Write.{basicFault, fault, or, sizedFault, tooLong, unless, write, writeBasic}
 use Rattle.layout.proofs.Proper.{both}
@@ -28,9 +28,7 @@ use Rattle.primitives.specs.Answers.{versionOf}
 use Rattle.primitives_put.specs.declared.Form.{Form}
 use Rattle.primitives_put.specs.Put.{Put, behindLength, sizeOf}
 use Rattle.primitives_put.proofs.Stored.{put-step}
-use Rattle.body_writing.specs.Asked.{allRanged}
 use Rattle.body_writing.proofs.Counts.{Cells}
-use Rattle.body_writing.proofs.Lent.{good-one}
 use Rattle.tagged_fields.proofs.Tags as Tags
 use Rattle.body_writing.proofs.Called.{called}
 use Rattle.api_versions_request.specs.Answers.{ofText}
@@ -72,11 +70,6 @@ module _ (size : ℕ) (name version : Text) (own : ℕ) (tags : List ℕ) where
   abbrev tagsJudged : Bool
   tagsJudged = good size 1 (tagsShape true 1) ((own ∷ []) ∷ tags ∷ [])
 
-  and-assoc : (a b x y : Bool) → ((a && (b && x)) && y) ≡ (a && (b && (x && y)))
-  and-assoc true true x y = refl
-  and-assoc true false x y = refl
-  and-assoc false b x y = refl
-
   own-good : (x y : Text) → goodRow size (requestShape false) (ofText x ++ (ofText y ++ (own ∷ []))) ≡ (goodCells size (textField true) (ofText x) && (goodCells size (textField true) (ofText y) && goodCount true own))
   unfolding goodRow goodCells goodSpan width
   own-good Text.Absent Text.Absent = and-true _
@@ -92,11 +85,12 @@ module _ (size : ℕ) (name version : Text) (own : ℕ) (tags : List ℕ) where
   own-told (Text.Present a k) (Text.Present b m) = add-zero (count own)
 
   is-good : judged ≡ (goodCells size (textField true) (ofText name) && (goodCells size (textField true) (ofText version) && tagsJudged))
-  unfolding kindOf kindIn arrays rowWidth width goodRow goodCells asked
+  unfolding kindOf kindIn arrays
   is-good =
-      good-one size (requestShape false) (absent natural (absent (blob plain) end)) 3 1 (count own) _ (ofText name ++ (ofText version ++ (own ∷ []))) tags refl refl (own-good name version) (own-told name version) (Tags.tag-good size) (λ r. refl)
-      ∙ and-assoc (goodCells size (textField true) (ofText name)) (goodCells size (textField true) (ofText version)) (goodCount true own) (allRanged 3 1 size tags && eqb (count own) (length tags / 3))
-      ∙ ap (λ (z : Bool). goodCells size (textField true) (ofText name) && (goodCells size (textField true) (ofText version) && z)) (sym (Tags.is-good size own tags))
+      let a = goodCells size (textField true) (ofText name) in
+      let b = goodCells size (textField true) (ofText version) in
+      Tags.tagged-good size (requestShape false) (a && b) own (ofText name ++ (ofText version ++ (own ∷ []))) tags refl (own-good name version ∙ sym (Tags.and-assoc a b (goodCount true own))) (own-told name version)
+      ∙ Tags.and-assoc a b tagsJudged
 
   module _ (a : Bool) (e : a ≡ goodCells size (textField true) (ofText name)) where
     pub name-out : a ≡ false → false ≡ judged

@@ -1,7 +1,7 @@
 -- 11 of a response: the numbers of a row, of all rows, and of the whole.
 use mathlib.Core.Bool.{Bool, _&&_, cond, false, true}
 use mathlib.Core.List.{List, [], _∷_}
-use mathlib.Core.Path.{_∙_, _≡_, ap, refl, sym}
+use mathlib.Core.Path.{_∙_, _≡_, ap, sym}
 use Prim.Native.Nat.{_*_, _+_, _/_, _<_, _^_, ℕ}
 use native.Mathlib.Nat.{add-zero}
 use lib.Dec.{eqb, lit<}
@@ -12,15 +12,10 @@ use Rattle.layout.specs.Write.{unless}
 use Rattle.body_writing.specs.Writes.{rowFault, rowsFault}
 use Rattle.layout.proofs.Chunks.{row-cell}
 use Rattle.body_writing.proofs.Faults.{none-is, only}
-use Rattle.primitives_put.specs.Answers.{within}
 use Rattle.body_writing.proofs.Counts.{Cells}
 use Rattle.body_writing.proofs.Even.{numbers-fault}
 use Rattle.api_versions_response.specs.ItemShapes.{keyFront}
 use Rattle.api_versions_response.proofs.Whole.{untagged, untagged-fault}
-
-pub is-held : (n : ℕ) → within 32768 n ≡ holds w16 n
-unfolding within holds
-is-held n = refl
 
 -- ---- the three numbers of a row
 

@@ -39,20 +39,21 @@ use Rattle.demands.proofs.Faults.{no-room, write-answered}
 
 -- ---- reading
 
-of-seen : (s : List ℕ) (e : Refusal) → Refuses s e → Fair (length s) e
-of-seen s e h = record { least = h .least; greatest = (let g = h .greatest in omega arith); place-in = h .place-in; no-need = λ n. h .no-need }
+pub of-seen : (top : ℕ) → top ≤ 14 → (s : List ℕ) (e : Refusal) → Refuses top s e → Fair (length s) e
+of-seen top k s e h = record { least = h .least; greatest = (let g = h .greatest in omega arith); place-in = h .place-in; no-need = λ n. h .no-need }
+
+-- what is read into tables, or refused: 10 where they have too little room
+pub judged-answered : (m : Message) (room : Tables) (size : ℕ) (o : Res Tables) → ((e : Refusal) → o ≡ bad e → Fair size e) → Answered size room (judged m room o .1) (judged m room o .0)
+judged-answered m room size (bad e) h = (h e refl, refl)
+judged-answered m room size (ok st n) h = at-room (needed (widths m) (drop 1 st) room)
+  where
+    at-room : (k : Option ℕ) → Answered size room (roomy st room n k .1) (roomy st room n k .0)
+    at-room none = tt
+    at-room (some k) = (no-room size k, refl)
 
 pub read-answered : (w : Bool) (m : Message) (v : ℤ) (room : Tables) (s : List ℕ) → Answered (length s) room (readAnswer w m v room s .1) (readAnswer w m v room s .0)
 unfolding readAnswer
-read-answered w m v room s = go (seen w m v s) refl
-  where
-    at-room : (st : Tables) (n : ℕ) (k : Option ℕ) → Answered (length s) room (roomy st room n k .1) (roomy st room n k .0)
-    at-room st n none = tt
-    at-room st n (some k) = (no-room (length s) k, refl)
-
-    go : (o : Res Tables) → seen w m v s ≡ o → Answered (length s) room (judged m room o .1) (judged m room o .0)
-    go (bad e) d = (of-seen s e (seen-refuses w m v s e d), refl)
-    go (ok st n) d = at-room st n (needed (widths m) (drop 1 st) room)
+read-answered w m v room s = judged-answered m room (length s) (seen w m v s) (λ e d. of-seen 9 (omega arith) s e (seen-refuses w m v s e d))
 
 -- ---- in numbers
 
@@ -108,7 +109,7 @@ pub find-host : (msg : List ℕ) (v : ℤ) (node : ℕ) (r : HostNumbers) → r 
 find-host msg v node r p = subst (λ (y : HostNumbers). InNumbers {A = Tables} (length msg) [] [] (y .number) (y .place) (y .need)) (sym p) (go (Lookup.lookup node v msg) refl)
   where
     go : (o : Lookup.Host) → Lookup.lookup node v msg ≡ o → InNumbers {A = Tables} (length msg) [] [] (hostNumbers o .number) (hostNumbers o .place) (hostNumbers o .need)
-    go (Lookup.refused e) d = let h = of-seen msg e (lookup-tells node v msg e d) in inr (record { least = h .least; greatest = h .greatest; place-in = h .place-in; no-need = h .no-need }, refl)
+    go (Lookup.refused e) d = let h = of-seen 9 (omega arith) msg e (lookup-tells node v msg e d) in inr (record { least = h .least; greatest = h .greatest; place-in = h .place-in; no-need = h .no-need }, refl)
     go Lookup.unknown d = inl refl
     go (Lookup.found a k) d = inl refl
 

@@ -85,20 +85,24 @@ module _ (m : Message) (v : ℕ) (lent : List ℕ) (st : Tables) (out : List ℕ
 
 -- ---- in numbers: F makes a struct of an answer, and its number is 0 where the answer is an acceptance
 
+-- a struct r, and what was lent after the call, that an acceptance was made into
+pub record OfAccepted {N A : Type 0} (F : Answer → N) (o : Answer × A) (r : N) (after : A) : Type 0 where
+  pub row : List ℕ
+  pub used : ℕ
+  pub reply : r ≡ F (accepted row used)
+  pub is : o ≡ (accepted row used, after)
+
+module _ {N A : Type 0} (F : Answer → N) (number : N → ℕ) (refusal : (e : Refusal) → number (F (refused e)) ≡ e .number) (size : ℕ) (before : A) where
+  pub told-accepted : (o : Answer × A) → Answered size before (o .1) (o .0) → (r : N) (after : A) → (r, after) ≡ told F o → number r ≡ 0 → OfAccepted F o r after
+  unfolding told
+  told-accepted (accepted row n, x) a r after p z = record { row = row; used = n; reply = ap (λ (y : N × A). y .0) p; is = ap (λ (y : N × A). (accepted row n, y .1)) (sym p) }
+  told-accepted (refused e, x) a r after p z = let y : number r ≡ e .number = ap (λ (y : N × A). number (y .0)) p ∙ refusal e in absurd (omega (arith, a .0 .least))
+
 module _ {N : Type 0} (F : Answer → N) (number : N → ℕ) (refusal : (e : Refusal) → number (F (refused e)) ≡ e .number) where
   of-told : (m : Message) → proper m ≡ true → (w : Bool) (v : ℕ) (s : List ℕ) (room after : Tables) (r : N) → (r, after) ≡ told F (readAnswer w m (pos v) room s) → number r ≡ 0 → Accepted F w m v s room r after
-  unfolding told
-  of-told m h w v s room after r p z = go (readAnswer w m (pos v) room s) refl p (read-answered w m (pos v) room s)
-    where
-      go : (o : Answer × Tables) → readAnswer w m (pos v) room s ≡ o → _≡_ {A = N × Tables} (r, after) (F (o .0), o .1) → Answered (length s) room (readAnswer w m (pos v) room s .1) (readAnswer w m (pos v) room s .0) → Accepted F w m v s room r after
-      go (accepted row n, su) d p a =
-          let x : r ≡ F (accepted row n) = ap (λ (y : N × Tables). y .0) p in
-          let y : after ≡ su = ap (λ (y : N × Tables). y .1) p in
-          record { row = row; used = n; reply = x; says = subst (λ (u : Tables). Says w m v s room row n u) (sym y) (says m h w v s room row n su d) }
-      go (refused e, su) d p a =
-          let x : number r ≡ e .number = ap (λ (y : N × Tables). number (y .0)) p ∙ refusal e in
-          let f = subst (λ (o : Answer × Tables). Answered (length s) room (o .1) (o .0)) d a in
-          absurd (omega (arith, f .0 .least))
+  of-told m h w v s room after r p z =
+      let a = told-accepted F number refusal (length s) room _ (read-answered w m (pos v) room s) r after p z in
+      record { row = a .row; used = a .used; reply = a .reply; says = says m h w v s room (a .row) (a .used) after (a .is) }
 
   -- and the other direction
   pub told-taken : (m : Message) (w : Bool) (v : ℕ) (s : List ℕ) (n : ℕ) (x : Value (List ℕ) (shape m v)) (t : Taken w m v s n x) (room after : Tables) (r : N) → needed (widths m) (drop 1 (t .rows)) room ≡ none →
@@ -129,17 +133,8 @@ module _ (v : ℕ) (msg : List ℕ) (room after : Tables) where
 -- the four that write a body, m being its message: what they accept are those bytes
 pub written : (m : Message) (v : ℕ) (lent : List ℕ) (st : Tables) (out after : List ℕ) (r : Numbers) → (r, after) ≡ told numbers (writeAnswer m (pos v) lent st out) → r .number ≡ 0 →
     (r .used ≡ length (bytesOf m v lent st)) × (after ≡ bytesOf m v lent st ++ drop (r .used) out)
-unfolding told
-written m v lent st out after r p z = go (writeAnswer m (pos v) lent st out) refl p (write-answered m (pos v) lent st out)
-  where
-    go : (o : Answer × List ℕ) → writeAnswer m (pos v) lent st out ≡ o → _≡_ {A = Numbers × List ℕ} (r, after) (numbers (o .0), o .1) → Answered 0 out (writeAnswer m (pos v) lent st out .1) (writeAnswer m (pos v) lent st out .0) →
-        (r .used ≡ length (bytesOf m v lent st)) × (after ≡ bytesOf m v lent st ++ drop (r .used) out)
-    go (accepted row n, bs) d p a =
-        let c = written-bytes m v lent st out row n bs d in
-        let x : r .used ≡ n = ap (λ (y : Numbers × List ℕ). y .0 .used) p in
-        let y : after ≡ bs = ap (λ (y : Numbers × List ℕ). y .1) p in
-        (x ∙ c .1, y ∙ c .0 ∙ ap (λ (k : ℕ). bytesOf m v lent st ++ drop k out) (sym x))
-    go (refused e, bs) d p a =
-        let x : r .number ≡ e .number = ap (λ (y : Numbers × List ℕ). y .0 .number) p in
-        let f = subst (λ (o : Answer × List ℕ). Answered 0 out (o .1) (o .0)) d a in
-        absurd (omega (arith, f .0 .least))
+written m v lent st out after r p z =
+    let a = told-accepted numbers (λ x. x .number) (λ e. refl) 0 out _ (write-answered m (pos v) lent st out) r after p z in
+    let c = written-bytes m v lent st out (a .row) (a .used) after (a .is) in
+    let x : r .used ≡ a .used = ap (λ (y : Numbers). y .used) (a .reply) in
+    (x ∙ c .1, c .0 ∙ ap (λ (k : ℕ). bytesOf m v lent st ++ drop k out) (sym x))

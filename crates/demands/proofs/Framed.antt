@@ -1,5 +1,5 @@
 -- The demands, of the calls on frames: what they refuse is fair and leaves all that was lent as it was; what they accept means those bytes; what was written comes back, header and body.
-use mathlib.Core.Bool.{Bool, cond, false, true}
+use mathlib.Core.Bool.{false, true}
 use mathlib.Core.List.{List, [], _++_, _∷_}
 use mathlib.Core.Option.{Option, none, some}
 use mathlib.Core.Path.{_∙_, _≡_, ap, refl, subst, sym}
@@ -15,14 +15,14 @@ use Rattle.layout.specs.Rows.{Shape, Value, at, standing, stands, tagRows}
 use Rattle.layout.specs.Read.{byBytes, read}
 use Rattle.layout.specs.Write.{fault}
 use Rattle.layout.specs.Tables.{Tables, append, good, readRows, slice, width}
-use Rattle.layout.specs.Answers.{Answer, accepted, body, judged, judgedGood, laid, meant, most, needed, noRows, refused, roomy, shape, stored, widths}
+use Rattle.layout.specs.Answers.{Answer, accepted, body, laid, meant, most, needed, noRows, refused, roomy, shape, widths}
 use Rattle.layout.specs.Frames.{Header, frameMade, frameRead, frameSeen, frameSize, frameWritten, framed, inFrame, withSize, withBody}
 use Rattle.layout.specs.Messages.Headers as Headers
 use Rattle.layout.specs.Messages.Headers.{requestRows, responseRows}
 use Rattle.layout.specs.Settled.{gone, goneCount, num, requestHeaderTables, responseHeaderTables, settledCells, settledCount, settledRow, settledSpan, shownCells, shownSpan}
 use Rattle.layout.proofs.Back.{length-bytes}
-use Rattle.layout.proofs.Calls.{not-accepted}
-use Rattle.layout.proofs.Frames.{Framed, Heads, frame-back, frame-made, frame-refuses, size-inv}
+use Rattle.layout.proofs.Calls.{Wrote, not-accepted, stored-inv}
+use Rattle.layout.proofs.Frames.{Framed, frame-back, frame-made, frame-refuses, size-inv}
 use Rattle.layout.proofs.Headers.{request-heads, request-proper, response-heads, response-proper}
 use Rattle.layout.proofs.Local.{not-ok}
 use Rattle.layout.proofs.Proper.{owed, proper}
@@ -39,27 +39,20 @@ use Rattle.frame.specs.declared.RequestHeader.{RequestHeader}
 use Rattle.frame.specs.declared.ResponseHeader.{ResponseHeader}
 use Rattle.gateway.specs.Replies.{numbers, told}
 use Rattle.gateway.specs.declared.Numbers.{Numbers}
-use Rattle.gateway_frame.specs.Replies.{requestNumbers, responseNumbers}
-use Rattle.gateway_frame.specs.declared.RequestNumbers.{RequestNumbers}
-use Rattle.gateway_frame.specs.declared.ResponseNumbers.{ResponseNumbers}
+use Rattle.gateway_frame.specs.Replies.{requestFrameNumbers, responseFrameNumbers}
+use Rattle.gateway_frame.specs.declared.RequestFrameNumbers.{RequestFrameNumbers}
+use Rattle.gateway_frame.specs.declared.ResponseFrameNumbers.{ResponseFrameNumbers}
 use Rattle.demands.specs.Frames.{FrameAccepted, FrameSays, FrameTaken, FrameWritable, HeaderBack, clientBack, frameOf, headerOf, headerTagsBack, requestHeaderBack, responseHeaderBack}
 use Rattle.demands.specs.Refusals.{Answered, Fair, InNumbers}
-use Rattle.demands.proofs.Demand1.{of-told}
-use Rattle.demands.proofs.Faults.{at-zero, fault-most, is-bad, no-room, stored-answered}
+use Rattle.demands.proofs.Demand1.{judged-answered, of-seen, of-told}
+use Rattle.demands.proofs.Demand2.{told-accepted}
+use Rattle.demands.proofs.Faults.{fault-most, is-bad, stored-answered}
 
 -- ---- the first demand
 
 frame-answered : (h : Header) (v : ℤ) (room : Tables) (s : List ℕ) → Answered (length s) room (frameRead h v room s .1) (frameRead h v room s .0)
 unfolding frameRead
-frame-answered h v room s = go (frameSeen h v s) refl
-  where
-    at-room : (st : Tables) (n : ℕ) (k : Option ℕ) → Answered (length s) room (roomy st room n k .1) (roomy st room n k .0)
-    at-room st n none = tt
-    at-room st n (some k) = (no-room (length s) k, refl)
-
-    go : (o : Res Tables) → frameSeen h v s ≡ o → Answered (length s) room (judged (withSize (h .rows)) room o .1) (judged (withSize (h .rows)) room o .0)
-    go (bad e) d = let f = frame-refuses h v s e d in (record { least = f .least; greatest = f .greatest; place-in = f .place-in; no-need = λ n. f .no-need }, refl)
-    go (ok st n) d = at-room st n (needed (widths (withSize (h .rows))) (drop 1 st) room)
+frame-answered h v room s = judged-answered (withSize (h .rows)) room (length s) (frameSeen h v s) (λ e d. of-seen 14 (omega arith) s e (frame-refuses h v s e d))
 
 of-framed : (f : ℕ) → f ≤ 11 → (header rest : List ℕ) (e : Refusal) → framed f header rest ≡ bad e → Fair 0 e
 of-framed zero g header rest e h = by-test (leb (length header + length rest) most) (λ a. not-ok (sym (rw a at h))) (λ a. is-bad 2 e (omega arith) (omega arith) (let z : _≡_ {A = Res (List ℕ)} (bad (because 2 0)) (bad e) = rw a at h in z))
@@ -85,11 +78,11 @@ frame-write-answered h v lent st rest out = stored-answered out (frameMade h v l
 
 -- each entry point: r is what it hands back, and what was lent is `before` and then `after`
 module _ (msg : List ℕ) (v : ℤ) (before after : Tables) where
-  pub read-request-frame : (r : RequestNumbers) → (r, after) ≡ told requestNumbers (frameRead Headers.request v before msg) → InNumbers (length msg) before after (r .number) (r .place) (r .need)
-  read-request-frame = λ r. of-told requestNumbers (λ x. x .number) (λ x. x .place) (λ x. x .need) (λ c n. refl) (λ e. (refl, refl, refl)) (length msg) before _ (frame-answered Headers.request v before msg) r after
+  pub read-request-frame : (r : RequestFrameNumbers) → (r, after) ≡ told requestFrameNumbers (frameRead Headers.request v before msg) → InNumbers (length msg) before after (r .answer .number) (r .answer .place) (r .answer .need)
+  read-request-frame = λ r. of-told requestFrameNumbers (λ x. x .answer .number) (λ x. x .answer .place) (λ x. x .answer .need) (λ c n. refl) (λ e. (refl, refl, refl)) (length msg) before _ (frame-answered Headers.request v before msg) r after
 
-  pub read-response-frame : (r : ResponseNumbers) → (r, after) ≡ told responseNumbers (frameRead Headers.response v before msg) → InNumbers (length msg) before after (r .number) (r .place) (r .need)
-  read-response-frame = λ r. of-told responseNumbers (λ x. x .number) (λ x. x .place) (λ x. x .need) (λ c n. refl) (λ e. (refl, refl, refl)) (length msg) before _ (frame-answered Headers.response v before msg) r after
+  pub read-response-frame : (r : ResponseFrameNumbers) → (r, after) ≡ told responseFrameNumbers (frameRead Headers.response v before msg) → InNumbers (length msg) before after (r .answer .number) (r .answer .place) (r .answer .need)
+  read-response-frame = λ r. of-told responseFrameNumbers (λ x. x .answer .number) (λ x. x .answer .place) (λ x. x .answer .need) (λ c n. refl) (λ e. (refl, refl, refl)) (length msg) before _ (frame-answered Headers.response v before msg) r after
 
 -- the two that write a frame
 pub written-frame : (h : Header) (v : ℤ) (lent : List ℕ) (st : Tables) (rest before after : List ℕ) (r : Numbers) → (r, after) ≡ told numbers (frameWritten h v lent st rest before) → InNumbers 0 before after (r .number) (r .place) (r .need)
@@ -204,26 +197,17 @@ module _ (h : Header) (fit : proper (withSize (h .rows)) ≡ true) (v : ℕ) (s 
 -- in numbers: F makes a struct of an answer, and its number is 0 where the answer is an acceptance
 module _ {N : Type 0} (F : Answer → N) (number : N → ℕ) (refusal : (e : Refusal) → number (F (refused e)) ≡ e .number) where
   of-frame-told : (h : Header) → proper (withSize (h .rows)) ≡ true → (v : ℕ) (s : List ℕ) (room after : Tables) (r : N) → (r, after) ≡ told F (frameRead h (pos v) room s) → number r ≡ 0 → FrameAccepted F h v s room r after
-  unfolding told
-  of-frame-told h fit v s room after r p z = go (frameRead h (pos v) room s) refl p (frame-answered h (pos v) room s)
-    where
-      go : (o : Answer × Tables) → frameRead h (pos v) room s ≡ o → _≡_ {A = N × Tables} (r, after) (F (o .0), o .1) → Answered (length s) room (frameRead h (pos v) room s .1) (frameRead h (pos v) room s .0) → FrameAccepted F h v s room r after
-      go (accepted row n, su) d p a =
-          let x : r ≡ F (accepted row n) = ap (λ (y : N × Tables). y .0) p in
-          let y : after ≡ su = ap (λ (y : N × Tables). y .1) p in
-          record { row = row; used = n; reply = x; says = subst (λ (u : Tables). FrameSays h v s room row n u) (sym y) (frame-says h fit v s room row n su d) }
-      go (refused e, su) d p a =
-          let x : number r ≡ e .number = ap (λ (y : N × Tables). number (y .0)) p ∙ refusal e in
-          let f = subst (λ (o : Answer × Tables). Answered (length s) room (o .1) (o .0)) d a in
-          absurd (omega (arith, f .0 .least))
+  of-frame-told h fit v s room after r p z =
+      let a = told-accepted F number refusal (length s) room _ (frame-answered h (pos v) room s) r after p z in
+      record { row = a .row; used = a .used; reply = a .reply; says = frame-says h fit v s room (a .row) (a .used) after (a .is) }
 
 -- each entry point that reads a frame: what it accepts means those bytes
 module _ (v : ℕ) (msg : List ℕ) (room after : Tables) where
-  pub accepted-request-frame : (r : RequestNumbers) → (r, after) ≡ told requestNumbers (frameRead Headers.request (pos v) room msg) → r .number ≡ 0 → FrameAccepted requestNumbers Headers.request v msg room r after
-  accepted-request-frame = of-frame-told requestNumbers (λ x. x .number) (λ e. refl) Headers.request request-proper v msg room after
+  pub accepted-request-frame : (r : RequestFrameNumbers) → (r, after) ≡ told requestFrameNumbers (frameRead Headers.request (pos v) room msg) → r .answer .number ≡ 0 → FrameAccepted requestFrameNumbers Headers.request v msg room r after
+  accepted-request-frame = of-frame-told requestFrameNumbers (λ x. x .answer .number) (λ e. refl) Headers.request request-proper v msg room after
 
-  pub accepted-response-frame : (r : ResponseNumbers) → (r, after) ≡ told responseNumbers (frameRead Headers.response (pos v) room msg) → r .number ≡ 0 → FrameAccepted responseNumbers Headers.response v msg room r after
-  accepted-response-frame = of-frame-told responseNumbers (λ x. x .number) (λ e. refl) Headers.response response-proper v msg room after
+  pub accepted-response-frame : (r : ResponseFrameNumbers) → (r, after) ≡ told responseFrameNumbers (frameRead Headers.response (pos v) room msg) → r .answer .number ≡ 0 → FrameAccepted responseFrameNumbers Headers.response v msg room r after
+  accepted-response-frame = of-frame-told responseFrameNumbers (λ x. x .answer .number) (λ e. refl) Headers.response response-proper v msg room after
 
 -- ---- writing
 
@@ -235,23 +219,9 @@ framed-long header rest =
     omega arith
 
 module _ (h : Header) (v : ℕ) (lent : List ℕ) (st : Tables) (rest out : List ℕ) where
-  record Wrote (n : ℕ) (after : List ℕ) : Type 0 where
-    bs : List ℕ
-    is-made : frameMade h (pos v) lent st rest ≡ ok bs n
-    after-is : after ≡ bs ++ drop n out
-
-  wrote : (r : List ℕ) (n : ℕ) (after : List ℕ) → frameWritten h (pos v) lent st rest out ≡ (accepted r n, after) → Wrote n after
+  wrote : (r : List ℕ) (n : ℕ) (after : List ℕ) → frameWritten h (pos v) lent st rest out ≡ (accepted r n, after) → Wrote (frameMade h (pos v) lent st rest) out n after
   unfolding frameWritten
-  wrote r n after e =
-      by-result (frameMade h (pos v) lent st rest)
-      (λ bs k d. by-test (leb k (length out))
-      (λ i.
-      let f : _≡_ {A = Answer × List ℕ} (accepted [] k, bs ++ drop k out) (accepted r n, after) = rw (d, i) at e in
-      let x : accepted [] k ≡ accepted r n = ap (λ (z : Answer × List ℕ). z .0) f in
-      let y : k ≡ n = cc in
-      record { bs = bs; is-made = d ∙ ap (λ (j : ℕ). ok bs j) y; after-is = sym (ap (λ (z : Answer × List ℕ). z .1) f) ∙ ap (λ (j : ℕ). bs ++ drop j out) y })
-      (λ i. not-accepted (rw (d, i) at e)))
-      (λ c d. not-accepted (rw d at e))
+  wrote = stored-inv (frameMade h (pos v) lent st rest) out
 
   frame-long : length (frameOf h v lent st rest) ≡ 4 + (length (headerOf h v lent st) + length rest)
   frame-long = framed-long (headerOf h v lent st) rest

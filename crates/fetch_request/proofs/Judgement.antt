@@ -15,7 +15,6 @@ use Rattle.layout.specs.Tables.{all, arrays, asked, basicOf, chosen, count, goo
 use Rattle.layout.specs.Write.{basicFault, fault, or, tooLong, unless}
 use Rattle.body_writing.specs.Writes.{faultAt, itemsFault, refusalOf, rowFault, rowsFault, takes}
 use Rattle.body_writing.specs.Asked.{allRanged, ranged, stringFault, tells, told, toldGood}
-use Rattle.primitives_put.specs.Answers.{within}
 use Rattle.fetch_request.specs.declared.Own.{Own}
 use Rattle.fetch_request.specs.Shapes.{ownRow, partitionShape, requestShape, topicShape, topicsShape}
 use Rattle.layout.proofs.Proper.{both}
@@ -153,10 +152,6 @@ module _ (lent : List ℕ) (c : ℕ) (topics partitions : List ℕ) (own : Own) 
         pub fault-topics : y ≡ true → (r : ℕ) → r ≡ itemsFault lent topicShape (length topics / 3) 1 ([] ∷ topics ∷ partitions ∷ []) → r ≡ refusal
         unfolding unless or
         fault-topics m r o = judge y l r (o ∙ sym (rw (k, m)))
-
-pub is-held : (n : ℕ) → within 2147483648 n ≡ holds w32 n
-unfolding within holds
-is-held n = refl
 
 -- ---- a partition's numbers
 

@@ -5,7 +5,7 @@ use mathlib.Core.Option.{Option, none, some}
 use mathlib.Core.Path.{_∙_, _≡_, ap, refl, subst, sym}
 use Prim.Native.Nat.{_+_, _-_, _/_, _<_, _^_, _≤_, ℕ}
 use native.Mathlib.Omega.{arith}
-use lib.IntN.{negsuc, pos, ℤ}
+use lib.IntN.{pos, ℤ}
 use lib.ListN.{drop, length, take}
 use lib.Seq.{length-take-le, sets, take-add}
 use Rattle.layout.specs.Reading.{Refusal, Res, bad, because, more, ok}
@@ -36,10 +36,11 @@ use Rattle.layout.proofs.Kept.{kept-cell}
 use Rattle.layout.proofs.Local.{locals, not-ok}
 use Rattle.layout.proofs.Proper.{proper}
 use Rattle.primitives.proofs.Versions as Versions
-use Rattle.layout.proofs.Tests.{le-false, le-true, lt-false, lt-true}
+use Rattle.layout.proofs.Tests.{le-false, le-true, lt-false}
 use Rattle.body_reading.proofs.Bound.{lean, slim, slim-at, taken}
 use Rattle.body_reading.proofs.Chains.{field-took}
 use Rattle.body_reading.proofs.Close.{Ended, ended, ended-no, filled, runs-so, slices, slices-tabs, store-own}
+use Rattle.frame.proofs.Written.{above, below}
 use Rattle.body_reading.proofs.Reply.{judged-fits, judged-needs, none-same, short-here, short-next, short-none, uncut}
 
 -- ---- the size
@@ -109,23 +110,19 @@ module _ (h : Header) (o : Ready h) (z : ℤ) (v : ℕ) (g : v ≡ versionOf z) 
   abbrev reply : Answer × Tables
   reply = frameRead h z (l ∷ []) s
 
+  unknown : (c : Refusal) → c ≡ because 1 0 → frameSeen h z s ≡ bad (because 1 0) → (refused c, l ∷ []) ≡ reply
+  unfolding frameRead
+  unknown c e d = (λ t. (refused (e t), l ∷ [])) ∙ ap (judged m (l ∷ [])) (sym d)
+
   pub reply-below : v < h .first → (c : Refusal) → c ≡ because 1 0 → (refused c, l ∷ []) ≡ reply
-  unfolding frameRead frameSeen
-  reply-below k c e = go z g
-    where
-      go : (z : ℤ) → v ≡ versionOf z → (refused c, l ∷ []) ≡ frameRead h z (l ∷ []) s
-      go (pos n) i = rw (lt-true n (h .first) (omega arith)) (λ t. (refused (e t), l ∷ []))
-      go (negsuc n) i = λ t. (refused (e t), l ∷ [])
+  unfolding frameSeen
+  reply-below k c e = unknown c e (below (h .first) v z g k _)
+
+  pub reply-above : h .rows .last < v → (c : Refusal) → c ≡ because 1 0 → (refused c, l ∷ []) ≡ reply
+  unfolding frameSeen
+  reply-above k c e = unknown c e (above (h .first) v m z g k _)
 
   module _ (taken : h .first ≤ v) where
-    pub reply-above : h .rows .last < v → (c : Refusal) → c ≡ because 1 0 → (refused c, l ∷ []) ≡ reply
-    unfolding frameRead frameSeen
-    reply-above k c e = go z g
-      where
-        go : (z : ℤ) → v ≡ versionOf z → (refused c, l ∷ []) ≡ frameRead h z (l ∷ []) s
-        go (pos n) i = rw (lt-false n (h .first) (omega arith), le-false n (h .rows .last) (omega arith)) (λ t. (refused (e t), l ∷ []))
-        go (negsuc n) i = λ t. (refused (e t), l ∷ [])
-
     module _ (known : v ≤ h .rows .last) where
       of-number : {x : Answer × Tables} → x ≡ frameRead h (pos v) (l ∷ []) s → x ≡ reply
       of-number e = e ∙ ap (λ (y : ℤ). frameRead h y (l ∷ []) s) (Versions.known (h .rows) z v g known (o .low))
@@ -213,33 +210,32 @@ module _ (h : Header) (o : Ready h) (z : ℤ) (v : ℕ) (g : v ≡ versionOf z) 
                 ∙ sym (judged-needs m (l ∷ []) row (measured .rows) all (k / 3) (room-is (some (k / 3)) (short-here 3 [] k [] (length l) [] (subst (λ (t : List ℕ). length t / 3 < k / 3) (sym same) j))))
                 ∙ with-body
 
+            -- the rows have room
+            fitting : k / 3 ≤ length l / 3 → (accepted row all, filled (l ∷ []) (measured .rows)) ≡ reply
+            fitting j =
+                sym (judged-fits m (l ∷ []) row (measured .rows) all (measured .long)
+                (uncut m (o .fit) false v known w (n ∷ cs) (measured .rows) q (measured .long ∙ o .one) (ap (λ (t : Tables). readRows false append (shape m v) 0 ([] ∷ t) 0 w) (sym (none-same (l ∷ []) (h .rows .tables) (o .one))) ∙ measured .is))
+                (room-is none (short-next 3 [] k [] (length l) [] j ∙ short-none [] [])))
+                ∙ with-body
+
             -- there are no tags, and the table stays
             pub frame-bare : k ≡ 0 → (accepted row all, (t₁ ++ l) ∷ []) ≡ reply
             frame-bare z =
                 let e : lengths (measured .rows) ≡ 0 ∷ [] = sym (measured .marks-are) ∙ ap (λ (j : ℕ). j ∷ []) z in
-                (λ t. (accepted row all, sym same t ∷ []))
-                ∙ ap (λ (t : Tables). (accepted row all, t)) (sym (none-filled (measured .rows) e))
-                ∙ sym (judged-fits m (l ∷ []) row (measured .rows) all (measured .long)
-                (uncut m (o .fit) false v known w (n ∷ cs) (measured .rows) q (measured .long ∙ o .one) (ap (λ (t : Tables). readRows false append (shape m v) 0 ([] ∷ t) 0 w) (sym (none-same (l ∷ []) (h .rows .tables) (o .one))) ∙ measured .is))
-                (room-is none (short-next 3 [] k [] (length l) [] (rw z (omega arith)) ∙ short-none [] [])))
-                ∙ with-body
+                (λ t. (accepted row all, sym same t ∷ [])) ∙ ap (λ (t : Tables). (accepted row all, t)) (sym (none-filled (measured .rows) e)) ∙ fitting (rw z (omega arith))
               where
                 none-filled : (st : Tables) → lengths st ≡ 0 ∷ [] → filled (l ∷ []) st ≡ l ∷ []
                 none-filled [] e = refl
                 none-filled (cs ∷ []) e = let c : length cs ≡ 0 = cc in ap (λ (ds : List ℕ). sets l 0 ds ∷ []) (nil cs c)
                 none-filled (cs ∷ ds ∷ st) e = let c : length cs ≡ 0 = cc in ap (λ (ds : List ℕ). sets l 0 ds ∷ []) (nil cs c)
 
-            -- the rows have room, and the second walk's answer is not used
+            -- the second walk fills them, and its answer is not used
             pub frame-took : k / 3 ≤ length (t₁ ++ l) / 3 → (l₂ : List ℕ) (f₂ : Tab → Res State) → ((x : State) (j : ℕ) → f₂ (own (n ∷ [])) ≡ ok x j → slices x ≡ l₂ ∷ []) → Walks (t₁ ++ l) f₂ → (accepted row all, l₂ ∷ []) ≡ reply
             frame-took j l₂ f₂ holds fill =
                 let b = runs-so false (shape m v) (thin .0) (thin .1) w size-w (l ∷ []) (n ∷ cs) (measured .rows) q (measured .is) in
                 let x = holds _ _ (after-size (t₁ ++ l) f₂ fill ∙ ap run (sym same) ∙ b) in
                 let a : filled (l ∷ []) (measured .rows) ≡ l₂ ∷ [] = sym (slices-tabs (filled (l ∷ []) (measured .rows)) (lengths (measured .rows))) ∙ x in
-                ap (λ (t : Tables). (accepted row all, t)) (sym a)
-                ∙ sym (judged-fits m (l ∷ []) row (measured .rows) all (measured .long)
-                (uncut m (o .fit) false v known w (n ∷ cs) (measured .rows) q (measured .long ∙ o .one) (ap (λ (t : Tables). readRows false append (shape m v) 0 ([] ∷ t) 0 w) (sym (none-same (l ∷ []) (h .rows .tables) (o .one))) ∙ measured .is))
-                (room-is none (short-next 3 [] k [] (length l) [] (subst (λ (t : List ℕ). k / 3 ≤ length t / 3) (sym same) j) ∙ short-none [] [])))
-                ∙ with-body
+                ap (λ (t : Tables). (accepted row all, t)) (sym a) ∙ fitting (subst (λ (t : List ℕ). k / 3 ≤ length t / 3) (sym same) j)
 
 -- ---- what the walks say
 

@@ -36,7 +36,7 @@ use Rattle.tagged_fields.proofs.Tags as Tags
 use Rattle.frame.specs.Answers.{ofRequest}
 use Rattle.frame.specs.Shapes.{clientField, clientShape, numbersShape}
 use Rattle.frame.specs.declared.RequestHeader.{RequestHeader}
-use Rattle.frame.proofs.Written.{header-put, tagged-good, tags-bytes, tags-clean}
+use Rattle.frame.proofs.Written.{header-put, tags-bytes, tags-clean}
 
 -- ---- a client name: absent, null, or there
 
@@ -125,7 +125,7 @@ module _ (h : RequestHeader) (tags : List ℕ) where
 
     is-good : good size 1 (shape (request .rows) 0) st ≡ (goodCells size clientField (fieldCells (h .«client_id»)) && good size 1 (tagsShape true 1) ((h .tags ∷ []) ∷ tags ∷ []))
     unfolding shape at stands standing tagRows requestRows kindOf kindIn arrays
-    is-good = tagged-good size (onto numbersShape (absent clientField (tagsShape false 1))) (goodCells size clientField (fieldCells (h .«client_id»))) (h .tags) (ofRequest h) tags refl (own-good (h .«client_id»)) (own-told (h .«client_id»))
+    is-good = Tags.tagged-good size (onto numbersShape (absent clientField (tagsShape false 1))) (goodCells size clientField (fieldCells (h .«client_id»))) (h .tags) (ofRequest h) tags refl (own-good (h .«client_id»)) (own-told (h .«client_id»))
 
     module _ (a : Bool) (e : a ≡ goodCells size clientField (fieldCells (h .«client_id»))) where
       pub request-out : a ≡ false → false ≡ good size 1 (shape (request .rows) 0) st

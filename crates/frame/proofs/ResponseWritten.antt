@@ -26,7 +26,7 @@ use Rattle.body_writing.proofs.Writes.{refusal-bad, refusal-good, refusal-none}
 use Rattle.tagged_fields.proofs.Tags as Tags
 use Rattle.frame.specs.Answers.{ofResponse}
 use Rattle.frame.specs.declared.ResponseHeader.{ResponseHeader}
-use Rattle.frame.proofs.Written.{header-put, tagged-good, tags-bytes, tags-clean}
+use Rattle.frame.proofs.Written.{header-put, tags-bytes, tags-clean}
 
 abbrev responseShape : Bool → Shape
 responseShape t = field (number w32) (tagsShape t 1)
@@ -40,7 +40,7 @@ module _ (lent : List ℕ) (h : ResponseHeader) (tags : List ℕ) where
 
   is-good : good (length lent) 1 (tagsShape true 1) ((h .tags ∷ []) ∷ tags ∷ []) ≡ good (length lent) 1 (shape (response .rows) 0) (ofResponse h ∷ tags ∷ [])
   unfolding shape at stands standing tagRows responseRows kindOf kindIn arrays goodRow goodCells asked width
-  is-good = sym (tagged-good (length lent) (responseShape false) true (h .tags) (ofResponse h) tags refl (and-true _) (add-zero (count (h .tags))))
+  is-good = sym (Tags.tagged-good (length lent) (responseShape false) true (h .tags) (ofResponse h) tags refl (and-true _) (add-zero (count (h .tags))))
 
   module _ (v : ℕ) where
     abbrev refusal : ℕ

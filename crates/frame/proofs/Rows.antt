@@ -1,5 +1,5 @@
 -- Headers, row by row: each way out of the walks over them.
-use mathlib.Core.Bool.{Bool, false, true}
+use mathlib.Core.Bool.{false, true}
 use mathlib.Core.List.{List, [], _++_, _∷_}
 use mathlib.Core.Path.{_∙_, _≡_, ap, refl, sym}
 use Prim.Native.Nat.{_<_, _≤_, ℕ}
@@ -7,7 +7,7 @@ use lib.Dec.{leb}
 use Rattle.layout.specs.Reading.{Refusal, Res, bad, ok}
 use Rattle.layout.specs.Primitives.{cell, fixed, kept, minus, w16, w32}
 use Rattle.layout.specs.Rows.{Shape, at, end, field, number, standing, stands, tagRows, text}
-use Rattle.layout.specs.Read.{byPlace, readBasic}
+use Rattle.layout.specs.Read.{readBasic}
 use Rattle.layout.specs.Tables.{cells}
 use Rattle.layout.specs.Answers.{shape}
 use Rattle.layout.specs.Messages.Headers as Headers
@@ -16,13 +16,11 @@ use Rattle.primitives.specs.Answers.{ofRefusal}
 use Rattle.primitives.specs.declared.Refusal as Code
 use Rattle.body_reading.specs.Cells.{fieldCells}
 use Rattle.body_reading.specs.Store.{State, Tab, store, tab}
-use Rattle.body_reading.specs.Tagged.{tagsIf, tagsShape}
+use Rattle.body_reading.specs.Tagged.{tagsIf}
 use Rattle.body_reading.specs.Walk.{Runs, on, rowFrom, walk}
 use Rattle.tagged_fields.specs.Read.{inTables, inTablesIs}
 use Rattle.tagged_fields.specs.declared.reading.Walked.{Walked}
-use Rattle.frame.specs.Answers.{ofRequest}
 use Rattle.frame.specs.Walks.{frontShape, ofFront}
-use Rattle.frame.specs.declared.RequestHeader.{RequestHeader}
 use Rattle.frame.specs.declared.reading.Fields.{Fields}
 use Rattle.frame.specs.declared.reading.Front.{Front}
 use Rattle.layout.proofs.Tests.{le-false}

@@ -1,8 +1,8 @@
 -- The promises of the calls determine the reply, with the table or the output.
-use mathlib.Core.List.{List, [], _++_, _∷_}
+use mathlib.Core.List.{List, [], _∷_}
 use mathlib.Core.Path.{_≡_, ap, refl}
 use lib.IntN.{ℤ}
-use Prim.Native.Nat.{suc, zero, ℕ}
+use Prim.Native.Nat.{ℕ}
 use lib.ListN.{getD}
 use Rattle.layout.specs.Tables.{Tables}
 use Rattle.layout.specs.Answers.{Answer, accepted, refused}
@@ -13,6 +13,7 @@ use Rattle.primitives_put.specs.Answers.{replied}
 use Rattle.primitives_put.specs.declared.Written.{Written}
 use Rattle.primitives.proofs.Unique.{refusalOf, unique}
 use Rattle.primitives_put.proofs.Unique.{written-unique}
+use Rattle.body_reading.proofs.Unique.{fieldOf}
 use Rattle.frame.specs.Answers.{ofRequest, ofRequestFrame, ofResponse, ofResponseFrame}
 use Rattle.frame.specs.declared.RequestFrame.{RequestFrame}
 use Rattle.frame.specs.declared.RequestHeader.{RequestHeader}
@@ -20,12 +21,6 @@ use Rattle.frame.specs.declared.ResponseFrame.{ResponseFrame}
 use Rattle.frame.specs.declared.ResponseHeader.{ResponseHeader}
 
 -- ---- read
-
--- kind, start, length
-abbrev fieldOf : ℕ → ℕ → ℕ → Field
-fieldOf zero a k = Field.Absent
-fieldOf (suc zero) a k = Field.Null
-fieldOf (suc (suc n)) a k = Field.Present a k
 
 abbrev requestOf : Answer → RequestFrame
 requestOf (accepted cs n) =

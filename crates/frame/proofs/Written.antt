@@ -1,56 +1,36 @@
 -- Frames written, whatever their header: a number that it does not have, the end with tags and body, and the answer from what the measuring and the filling walk came to.
-use mathlib.Core.Bool.{Bool, _&&_, cond, false, true}
+use mathlib.Core.Bool.{Bool, cond, false, true}
 use mathlib.Core.List.{List, [], _++_, _∷_, append-assoc}
 use mathlib.Core.Logic.{_≢_}
 use mathlib.Core.Path.{_∙_, _≡_, ap, refl, sym}
 use Prim.Native.Nat.{_+_, _-_, _/_, _<_, _^_, _≤_, min, suc, zero, ℕ}
 use native.Mathlib.Omega.{arith}
-use lib.Dec.{eqb, lit<, ltb}
+use lib.Dec.{lit<, ltb}
 use lib.IntN.{negsuc, pos, ℤ}
 use lib.ListN.{drop, length, length-append}
 use borrow.Rule.Slice.PartMut.{midOf, putMid}
-use Rattle.layout.specs.Answers.{Answer, accepted, body, meant, most, refused, shape, stored}
-use Rattle.layout.specs.Frames.{Header, frameMade, frameWritten, framed}
-use Rattle.layout.specs.Primitives.{Width, bits, bytes, holds, plain}
-use Rattle.layout.specs.Reading.{Refusal, bad, because}
-use Rattle.layout.specs.Rows.{Shape, absent, blob, end, natural}
-use Rattle.layout.specs.Tables.{Tables, asked, count, good, goodCells, goodCount, goodRow, kindOf, rowWidth, width}
+use Rattle.layout.specs.Answers.{Answer, Message, accepted, atVersion, body, meant, most, refused, shape, stored}
+use Rattle.layout.specs.Frames.{Header, frameMade, frameWritten, framed, numbered}
+use Rattle.layout.specs.Primitives.{bytes, plain}
+use Rattle.layout.specs.Reading.{Refusal, Res, bad, because}
+use Rattle.layout.specs.Rows.{Shape}
+use Rattle.layout.specs.Tables.{Tables, count, good}
 use Rattle.layout.specs.Write.{fault, write}
 use Rattle.layout.proofs.Back.{length-bytes}
 use Rattle.layout.proofs.Chunks.{nil}
 use Rattle.layout.proofs.Tests.{by-test, le-false, le-true, lt-false, lt-true}
 use Rattle.primitives.specs.Answers.{noRoom, versionOf}
 use Rattle.primitives.proofs.Versions.{known}
-use Rattle.primitives_put.specs.Answers.{within}
 use Rattle.primitives_put.specs.Put.{Put}
 use Rattle.primitives_put.specs.Step.{Capped, Step, cap}
 use Rattle.primitives_put.proofs.Capped.{capped, capped-as, capped-behind, capped-count, capped-over, step-behind}
 use Rattle.primitives_put.proofs.Stored.{put-step}
 use Rattle.body_reading.specs.Tagged.{tagShape, tagsShape}
-use Rattle.body_writing.specs.Asked.{allRanged}
 use Rattle.body_writing.specs.Writes.{bytesAt, countedBytes, faultAt, refusalOf}
 use Rattle.body_writing.proofs.Counts.{Cells}
-use Rattle.body_writing.proofs.Lent.{good-one}
 use Rattle.tagged_fields.proofs.Tags as Tags
 
-pub is-held : (w : Width) (n : ℕ) → within (2 ^ (bits w - 1)) n ≡ holds w n
-unfolding within holds
-is-held w n = refl
-
 -- ---- tags at the end of a header, c of them
-
-and-assoc : (a b c : Bool) → ((a && b) && c) ≡ (a && (b && c))
-and-assoc true b c = refl
-and-assoc false b c = refl
-
--- 13 of a header that lacks them; x is what is asked of its other fields
-pub tagged-good : (size : ℕ) (l : Shape) (x : Bool) (c : ℕ) (row tags : List ℕ) → kindOf 1 l ≡ absent natural (absent (blob plain) end) → goodRow size l row ≡ (x && goodCount true c) → asked 1 l row ≡ count c →
-    good size 1 l (row ∷ tags ∷ []) ≡ (x && good size 1 (tagsShape true 1) ((c ∷ []) ∷ tags ∷ []))
-unfolding rowWidth width goodRow goodCells asked
-tagged-good size l x c row tags kind own-good own-told =
-    good-one size l (absent natural (absent (blob plain) end)) 3 1 (count c) _ row tags kind refl own-good own-told (Tags.tag-good size) (λ r. refl)
-    ∙ and-assoc x (goodCount true c) (allRanged 3 1 size tags && eqb (count c) (length tags / 3))
-    ∙ ap (λ (y : Bool). x && y) (sym (Tags.is-good size c tags))
 
 module _ (lent : List ℕ) (c : ℕ) (tags : List ℕ) (same : count c ≡ length tags / 3) where
   pub tags-bytes : (t : Bool) → bytesAt lent (tagsShape t 1) 0 ((c ∷ []) ∷ tags ∷ []) ≡ cond t (countedBytes lent tagShape plain 3 tags) []
@@ -75,27 +55,29 @@ module _ (t : Bool) (x y : List ℕ) where
 pub header-put : {header : List ℕ} (fs ts rest : List ℕ) → header ≡ fs ++ ts → {d d₁ e : List ℕ} {n m : ℕ} → Capped fs d n d₁ → (at : ℕ) → at ≡ min n (length d₁) → Capped (ts ++ rest) (midOf at (length d₁ - at) d₁) m e → (r : ℕ) → cap r ≡ cap (n + m) → Capped (header ++ rest) d r (putMid at (length d₁ - at) d₁ e)
 header-put fs ts rest i p at h q r k = capped-as (sym (append-assoc fs ts rest) ∙ ap (λ (x : List ℕ). x ++ rest) (sym i)) (capped-behind p at h q r k)
 
--- ---- 1
+-- ---- 1: a number that the header does not have
+
+module _ {A : Type 0} (first : ℕ) (v : ℕ) where
+  pub below : (z : ℤ) → v ≡ versionOf z → v < first → (r : Res A) → numbered first z r ≡ bad (because 1 0)
+  below (pos n) i l r = rw (lt-true n first (omega arith))
+  below (negsuc n) i l r = refl
+
+  pub above : (m : Message) (z : ℤ) → v ≡ versionOf z → m .last < v → (f : Shape → Res A) → numbered first z (atVersion m z f) ≡ bad (because 1 0)
+  above m (pos n) i l f = by-test (ltb n first) (λ b. rw b) (λ b. rw (b, le-false n (m .last) (omega arith)))
+  above m (negsuc n) i l f = refl
 
 module _ (h : Header) (z : ℤ) (v : ℕ) (i : v ≡ versionOf z) (lent : List ℕ) (st : Tables) (rest out : List ℕ) (c : Refusal) (d : c ≡ because 1 0) where
+  unknown : frameMade h z lent st rest ≡ bad (because 1 0) → _≡_ {A = Answer × List ℕ} (refused c, out) (frameWritten h z lent st rest out)
+  unfolding frameWritten
+  unknown e = (λ t. (refused (d t), out)) ∙ ap (stored out) (sym e)
+
   pub number-below : v < h .first → _≡_ {A = Answer × List ℕ} (refused c, out) (frameWritten h z lent st rest out)
-  unfolding frameWritten frameMade
-  number-below l = go z i
-    where
-      go : (z : ℤ) → v ≡ versionOf z → _≡_ {A = Answer × List ℕ} (refused c, out) (frameWritten h z lent st rest out)
-      go (pos n) j = rw (lt-true n (h .first) (omega arith)) (λ t. (refused (d t), out))
-      go (negsuc n) j = λ t. (refused (d t), out)
+  unfolding frameMade
+  number-below l = unknown (below (h .first) v z i l _)
 
   pub number-above : h .rows .last < v → _≡_ {A = Answer × List ℕ} (refused c, out) (frameWritten h z lent st rest out)
-  unfolding frameWritten frameMade
-  number-above l = go z i
-    where
-      go : (z : ℤ) → v ≡ versionOf z → _≡_ {A = Answer × List ℕ} (refused c, out) (frameWritten h z lent st rest out)
-      go (pos n) j =
-          by-test (ltb n (h .first))
-          (λ b. rw b (λ t. (refused (d t), out)))
-          (λ b. rw (b, le-false n (h .rows .last) (omega arith)) (λ t. (refused (d t), out)))
-      go (negsuc n) j = λ t. (refused (d t), out)
+  unfolding frameMade
+  number-above l = unknown (above (h .first) v (h .rows) z i l _)
 
 -- ---- a number that the header has
 

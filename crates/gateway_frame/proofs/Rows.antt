@@ -11,16 +11,19 @@ use mir.Facts.{toZ-ofZ}
 use mir.Syntax.{w64}
 use mir.Val.{SFits, ofZ, toZ}
 use Rattle.layout.specs.Tables.{Tables}
-use Rattle.layout.specs.Answers.{Answer, accepted}
+use Rattle.layout.specs.Answers.{Answer, accepted, refused}
+use Rattle.layout.specs.Reading.{Refusal}
 use Rattle.layout.specs.Frames.{Header, frameRead, frameWritten}
 use Rattle.layout.specs.Messages.Headers.{requestNumber}
 use Rattle.layout.proofs.Tests.{by-test}
 use Rattle.primitives.specs.declared.Field.{Field}
 use Rattle.body_reading.specs.Cells.{fieldCells}
-use Rattle.gateway.specs.Replies.{told}
+use Rattle.gateway.specs.Replies.{numbers, told}
+use Rattle.gateway.specs.declared.Numbers.{Numbers}
 use Rattle.gateway.proofs.Told.{told-by}
-use Rattle.gateway_frame.specs.Replies.{clientRow, requestNumbers}
-use Rattle.gateway_frame.specs.declared.RequestNumbers.{RequestNumbers}
+use Rattle.gateway_frame.specs.Replies.{clientRow, requestFrameNumbers, responseFrameNumbers}
+use Rattle.gateway_frame.specs.declared.RequestFrameNumbers.{RequestFrameNumbers}
+use Rattle.gateway_frame.specs.declared.ResponseFrameNumbers.{ResponseFrameNumbers}
 
 -- ---- a header number that passed an argument
 
@@ -49,19 +52,35 @@ present-client zero a n h i = absurd (h refl)
 present-client (suc zero) a n h i = absurd (i refl)
 present-client (suc (suc k)) a n h i = refl
 
--- ---- a request header that was read: the cells of the client name among the others
+-- ---- a header that was read: the numbers that every answer begins with, and its cells; of a refusal none
 
-module _ (y v c g b m u : ℕ) where
-  abbrev shown : ℕ → ℕ → ℕ → RequestNumbers
-  shown k s l = record { number = 0; place = 0; need = 0; used = u; «request_api_key» = y; «request_api_version» = v; «correlation_id» = c; «client_id_kind» = k; «client_id_start» = s; «client_id_length» = l; tags = g; «body_start» = b; «body_length» = m }
+module _ (y v c g b m : ℕ) where
+  abbrev request : Numbers → ℕ → ℕ → ℕ → RequestFrameNumbers
+  request r k s l = record { answer = r; «request_api_key» = y; «request_api_version» = v; «correlation_id» = c; «client_id_kind» = k; «client_id_start» = s; «client_id_length» = l; tags = g; «body_start» = b; «body_length» = m }
 
-  by-client : (f : Field) → shown (getD (fieldCells f) 0 0) (getD (fieldCells f) 1 0) (getD (fieldCells f) 2 0) ≡ requestNumbers (accepted ((y ∷ v ∷ c ∷ (fieldCells f ++ (g ∷ []))) ++ (b ∷ m ∷ [])) u)
-  by-client Field.Absent = refl
-  by-client Field.Null = refl
-  by-client (Field.Present a n) = refl
+  module _ (u : ℕ) where
+    by-client : (f : Field) → request (numbers (accepted [] u)) (getD (fieldCells f) 0 0) (getD (fieldCells f) 1 0) (getD (fieldCells f) 2 0) ≡ requestFrameNumbers (accepted ((y ∷ v ∷ c ∷ (fieldCells f ++ (g ∷ []))) ++ (b ∷ m ∷ [])) u)
+    by-client Field.Absent = refl
+    by-client Field.Null = refl
+    by-client (Field.Present a n) = refl
 
-  pub client-told : (f : Field) (k s l : ℕ) → k ≡ getD (fieldCells f) 0 0 → s ≡ getD (fieldCells f) 1 0 → l ≡ getD (fieldCells f) 2 0 → shown k s l ≡ requestNumbers (accepted ((y ∷ v ∷ c ∷ (fieldCells f ++ (g ∷ []))) ++ (b ∷ m ∷ [])) u)
-  client-told f k s l d e i = (λ x. shown (d x) (e x) (i x)) ∙ by-client f
+    pub client-told : (f : Field) (r : Numbers) (k s l : ℕ) → r ≡ numbers (accepted [] u) → k ≡ getD (fieldCells f) 0 0 → s ≡ getD (fieldCells f) 1 0 → l ≡ getD (fieldCells f) 2 0 →
+        request r k s l ≡ requestFrameNumbers (accepted ((y ∷ v ∷ c ∷ (fieldCells f ++ (g ∷ []))) ++ (b ∷ m ∷ [])) u)
+    client-told f r k s l h d e i = (λ x. request (h x) (d x) (e x) (i x)) ∙ by-client f
+
+abbrev response : ℕ → ℕ → ℕ → ℕ → Numbers → ResponseFrameNumbers
+response c g b m r = record { answer = r; «correlation_id» = c; tags = g; «body_start» = b; «body_length» = m }
+
+module _ (r : Numbers) where
+  pub response-told : (c g b m u : ℕ) → r ≡ numbers (accepted [] u) → response c g b m r ≡ responseFrameNumbers (accepted (c ∷ g ∷ b ∷ m ∷ []) u)
+  response-told c g b m u h = ap (response c g b m) h
+
+  module _ (e : Refusal) (h : r ≡ numbers (refused e)) where
+    pub no-request : request 0 0 0 0 0 0 r 0 0 0 ≡ requestFrameNumbers (refused e)
+    no-request = ap (λ (x : Numbers). request 0 0 0 0 0 0 x 0 0 0) h
+
+    pub no-response : response 0 0 0 0 r ≡ responseFrameNumbers (refused e)
+    no-response = ap (response 0 0 0 0) h
 
 -- ---- the number of a header, handed back
 

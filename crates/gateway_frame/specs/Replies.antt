@@ -4,20 +4,21 @@ use mathlib.Core.List.{List, [], _∷_, _++_}
 use Prim.Native.Nat.{ℕ, zero, suc}
 use lib.ListN.{getD}
 use Rattle.layout.specs.Answers.{Answer, accepted, refused}
-use Rattle.gateway_frame.specs.declared.RequestNumbers.{RequestNumbers}
-use Rattle.gateway_frame.specs.declared.ResponseNumbers.{ResponseNumbers}
+use Rattle.gateway.specs.Replies.{numbers}
+use Rattle.gateway_frame.specs.declared.RequestFrameNumbers.{RequestFrameNumbers}
+use Rattle.gateway_frame.specs.declared.ResponseFrameNumbers.{ResponseFrameNumbers}
 
 -- the row is API key, version, correlation number, client name (kind, start, length), number of tags, and start and length of the body
-abbrev pub requestNumbers : Answer → RequestNumbers
-requestNumbers (accepted cs n) =
-    record { number = 0; place = 0; need = 0; used = n; «request_api_key» = getD cs 0 0; «request_api_version» = getD cs 1 0; «correlation_id» = getD cs 2 0; «client_id_kind» = getD cs 3 0; «client_id_start» = getD cs 4 0; «client_id_length» = getD cs 5 0; tags = getD cs 6 0; «body_start» = getD cs 7 0; «body_length» = getD cs 8 0 }
-requestNumbers (refused e) =
-    record { number = e .number; place = e .place; need = e .need; used = 0; «request_api_key» = 0; «request_api_version» = 0; «correlation_id» = 0; «client_id_kind» = 0; «client_id_start» = 0; «client_id_length» = 0; tags = 0; «body_start» = 0; «body_length» = 0 }
+abbrev pub requestFrameNumbers : Answer → RequestFrameNumbers
+requestFrameNumbers (accepted cs n) =
+    record { answer = numbers (accepted cs n); «request_api_key» = getD cs 0 0; «request_api_version» = getD cs 1 0; «correlation_id» = getD cs 2 0; «client_id_kind» = getD cs 3 0; «client_id_start» = getD cs 4 0; «client_id_length» = getD cs 5 0; tags = getD cs 6 0; «body_start» = getD cs 7 0; «body_length» = getD cs 8 0 }
+requestFrameNumbers (refused e) =
+    record { answer = numbers (refused e); «request_api_key» = 0; «request_api_version» = 0; «correlation_id» = 0; «client_id_kind» = 0; «client_id_start» = 0; «client_id_length» = 0; tags = 0; «body_start» = 0; «body_length» = 0 }
 
 -- the row is correlation number, number of tags, and start and length of the body
-abbrev pub responseNumbers : Answer → ResponseNumbers
-responseNumbers (accepted cs n) = record { number = 0; place = 0; need = 0; used = n; «correlation_id» = getD cs 0 0; tags = getD cs 1 0; «body_start» = getD cs 2 0; «body_length» = getD cs 3 0 }
-responseNumbers (refused e) = record { number = e .number; place = e .place; need = e .need; used = 0; «correlation_id» = 0; tags = 0; «body_start» = 0; «body_length» = 0 }
+abbrev pub responseFrameNumbers : Answer → ResponseFrameNumbers
+responseFrameNumbers (accepted cs n) = record { answer = numbers (accepted cs n); «correlation_id» = getD cs 0 0; tags = getD cs 1 0; «body_start» = getD cs 2 0; «body_length» = getD cs 3 0 }
+responseFrameNumbers (refused e) = record { answer = numbers (refused e); «correlation_id» = 0; tags = 0; «body_start» = 0; «body_length» = 0 }
 
 -- ---- rows that a caller lends
 

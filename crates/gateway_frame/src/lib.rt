@@ -1,4 +1,5 @@
 // The C interface to frames: each answer as a struct of numbers, of the form that crates/gateway/src/lib.rt has.
+use gateway::Numbers;
 
 pub mod chosen;
 pub mod request;
@@ -6,11 +7,8 @@ pub mod response;
 
 // A frame with a request header: of the client name a kind, 1 where it is null and 2 where it is a part of the frame, start and length; `tags` is the cell of -1 where the header has none; start and length of the body.
 #[repr(C)]
-pub struct RequestNumbers {
-    pub number: u64,
-    pub place: u64,
-    pub need: u64,
-    pub used: u64,
+pub struct RequestFrameNumbers {
+    pub answer: Numbers,
     pub request_api_key: u64,
     pub request_api_version: u64,
     pub correlation_id: u64,
@@ -24,11 +22,8 @@ pub struct RequestNumbers {
 
 // A frame with a response header.
 #[repr(C)]
-pub struct ResponseNumbers {
-    pub number: u64,
-    pub place: u64,
-    pub need: u64,
-    pub used: u64,
+pub struct ResponseFrameNumbers {
+    pub answer: Numbers,
     pub correlation_id: u64,
     pub tags: u64,
     pub body_start: u64,

@@ -7,8 +7,8 @@ ghost use Rattle.layout.specs.Messages.Headers as Headers;
 ghost use Rattle.body_reading.specs.Cells.{fieldCells};
 ghost use Rattle.frame.specs.Answers.{ofRequest, ofRequestFrame};
 ghost use Rattle.gateway.specs.Replies.{numbers, told};
-ghost use Rattle.gateway_frame.specs.Replies.{clientRow, requestNumbers, requestRow};
-use crate::RequestNumbers;
+ghost use Rattle.gateway_frame.specs.Replies.{clientRow, requestFrameNumbers, requestRow};
+use crate::RequestFrameNumbers;
 use body_reading::cells;
 use frame::RequestFrame;
 use frame::RequestHeader;
@@ -16,15 +16,12 @@ use gateway::Numbers;
 use gateway::written;
 use primitives::Field;
 
-fn accepted(header: RequestHeader, body: usize, len: usize, used: usize) -> RequestNumbers
-    ensures { λ r. ⌜ r ≡ requestNumbers (accepted (ofRequest header ++ (body ∷ len ∷ [])) used) ⌝ }
+fn accepted(header: RequestHeader, body: usize, len: usize, used: usize) -> RequestFrameNumbers
+    ensures { λ r. ⌜ r ≡ requestFrameNumbers (accepted (ofRequest header ++ (body ∷ len ∷ [])) used) ⌝ }
 {
     let client = header.client_id;
-    RequestNumbers {
-        number: 0,
-        place: 0,
-        need: 0,
-        used: used as u64,
+    RequestFrameNumbers {
+        answer: gateway::accepted(used),
         request_api_key: header.request_api_key,
         request_api_version: header.request_api_version,
         correlation_id: header.correlation_id,
@@ -38,8 +35,8 @@ fn accepted(header: RequestHeader, body: usize, len: usize, used: usize) -> Requ
 }
 
 // What a reader answers, as numbers.
-fn reply(r: RequestFrame) -> RequestNumbers
-    ensures { λ n. ⌜ n ≡ requestNumbers (ofRequestFrame r) ⌝ }
+fn reply(r: RequestFrame) -> RequestFrameNumbers
+    ensures { λ n. ⌜ n ≡ requestFrameNumbers (ofRequestFrame r) ⌝ }
 {
     match r {
         RequestFrame::Took {
@@ -48,11 +45,8 @@ fn reply(r: RequestFrame) -> RequestNumbers
             len,
             used,
         } => accepted(header, body, len, used),
-        RequestFrame::Refused(e) => RequestNumbers {
-            number: e.number as u64,
-            place: e.place as u64,
-            need: e.need as u64,
-            used: 0,
+        RequestFrame::Refused(e) => RequestFrameNumbers {
+            answer: gateway::refused(e),
             request_api_key: 0,
             request_api_version: 0,
             correlation_id: 0,
@@ -71,8 +65,8 @@ pub extern "C" fn befrolan_read_request_frame(
     msg: &[u8],
     header: i64,
     tags: &mut [u64],
-) -> RequestNumbers
-    ensures { λ r. ⌜ (r, now (tags .exit) ∷ []) ≡ told requestNumbers (frameRead Headers.request header (now (tags .entry) ∷ []) (now (msg .entry))) ⌝ }
+) -> RequestFrameNumbers
+    ensures { λ r. ⌜ (r, now (tags .exit) ∷ []) ≡ told requestFrameNumbers (frameRead Headers.request header (now (tags .entry) ∷ []) (now (msg .entry))) ⌝ }
 {
     reply(frame::read_request(msg, header, tags))
 }

@@ -5,16 +5,16 @@ ghost use Rattle.layout.specs.Frames.{frameRead, frameWritten};
 ghost use Rattle.layout.specs.Messages.Headers as Headers;
 ghost use Rattle.frame.specs.Answers.{ofResponse, ofResponseFrame};
 ghost use Rattle.gateway.specs.Replies.{numbers, told};
-ghost use Rattle.gateway_frame.specs.Replies.{responseNumbers, responseRow};
-use crate::ResponseNumbers;
+ghost use Rattle.gateway_frame.specs.Replies.{responseFrameNumbers, responseRow};
+use crate::ResponseFrameNumbers;
 use frame::ResponseFrame;
 use frame::ResponseHeader;
 use gateway::Numbers;
 use gateway::written;
 
 // What a reader answers, as numbers.
-fn reply(r: ResponseFrame) -> ResponseNumbers
-    ensures { λ n. ⌜ n ≡ responseNumbers (ofResponseFrame r) ⌝ }
+fn reply(r: ResponseFrame) -> ResponseFrameNumbers
+    ensures { λ n. ⌜ n ≡ responseFrameNumbers (ofResponseFrame r) ⌝ }
 {
     match r {
         ResponseFrame::Took {
@@ -22,21 +22,15 @@ fn reply(r: ResponseFrame) -> ResponseNumbers
             start,
             len,
             used,
-        } => ResponseNumbers {
-            number: 0,
-            place: 0,
-            need: 0,
-            used: used as u64,
+        } => ResponseFrameNumbers {
+            answer: gateway::accepted(used),
             correlation_id: header.correlation_id,
             tags: header.tags,
             body_start: start as u64,
             body_length: len as u64,
         },
-        ResponseFrame::Refused(e) => ResponseNumbers {
-            number: e.number as u64,
-            place: e.place as u64,
-            need: e.need as u64,
-            used: 0,
+        ResponseFrame::Refused(e) => ResponseFrameNumbers {
+            answer: gateway::refused(e),
             correlation_id: 0,
             tags: 0,
             body_start: 0,
@@ -50,8 +44,8 @@ pub extern "C" fn befrolan_read_response_frame(
     msg: &[u8],
     header: i64,
     tags: &mut [u64],
-) -> ResponseNumbers
-    ensures { λ r. ⌜ (r, now (tags .exit) ∷ []) ≡ told responseNumbers (frameRead Headers.response header (now (tags .entry) ∷ []) (now (msg .entry))) ⌝ }
+) -> ResponseFrameNumbers
+    ensures { λ r. ⌜ (r, now (tags .exit) ∷ []) ≡ told responseFrameNumbers (frameRead Headers.response header (now (tags .entry) ∷ []) (now (msg .entry))) ⌝ }
 {
     reply(frame::read_response(msg, header, tags))
 }

@@ -16,7 +16,7 @@ use Rattle.layout.specs.Primitives.{minus}
 use Rattle.layout.specs.Rows.{Shape}
 use Rattle.layout.specs.Write.{fault}
 use Rattle.layout.specs.Tables.{Tables, append, good, goodCount, readRows}
-use Rattle.layout.specs.Answers.{Answer, Message, accepted, body, ended, laid, made, meant, most, needed, offered, prefixRead, readAnswer, refused, roomy, seen, shape, widths, writeAnswer}
+use Rattle.layout.specs.Answers.{Answer, Message, accepted, body, ended, laid, made, meant, most, needed, offered, prefixRead, readAnswer, refused, roomy, seen, shape, stored, widths, writeAnswer}
 use Rattle.layout.proofs.Contents.{Holds, rows-needed, rows-wide, rowsIn, tables-hold}
 use Rattle.layout.proofs.Every.{Every}
 use Rattle.layout.proofs.Link.{keep, link, over, under}
@@ -208,16 +208,16 @@ made-inv m (pos v) lent st bs n e =
     let o = offered-inv _ _ bs n (b .1) in
     record { version = v; is = refl; known = of-le _ _ (a .0); good-tables = b .0; clean = o .0; bytes-are = o .1; size-is = o .2; short = o .3 }
 
-pub record Wrote (m : Message) (v : ℤ) (lent : List ℕ) (st : Tables) (out : List ℕ) (n : ℕ) (after : List ℕ) : Type 0 where
+-- bytes that were made, o, are at the front of the output
+pub record Wrote (o : Res (List ℕ)) (out : List ℕ) (n : ℕ) (after : List ℕ) : Type 0 where
   pub bs : List ℕ
-  pub is-made : made m v lent st ≡ ok bs n
+  pub is-made : o ≡ ok bs n
   pub after-is : after ≡ bs ++ drop n out
   pub fits : n ≤ length out
 
-pub write-inv : (m : Message) (v : ℤ) (lent : List ℕ) (st : Tables) (out r : List ℕ) (n : ℕ) (after : List ℕ) → writeAnswer m v lent st out ≡ (accepted r n, after) → Wrote m v lent st out n after
-unfolding writeAnswer
-write-inv m v lent st out r n after e =
-    by-result (made m v lent st)
+pub stored-inv : (o : Res (List ℕ)) (out r : List ℕ) (n : ℕ) (after : List ℕ) → stored out o ≡ (accepted r n, after) → Wrote o out n after
+stored-inv o out r n after e =
+    by-result o
     (λ bs k d. by-test (leb k (length out))
     (λ h.
     let f : _≡_ {A = Answer × List ℕ} (accepted [] k, bs ++ drop k out) (accepted r n, after) = rw (d, h) at e in
@@ -226,6 +226,10 @@ write-inv m v lent st out r n after e =
     record { bs = bs; is-made = d ∙ ap (λ (j : ℕ). ok bs j) y; after-is = sym (ap (λ (z : Answer × List ℕ). z .1) f) ∙ ap (λ (j : ℕ). bs ++ drop j out) y; fits = rw y at (of-le k (length out) h) })
     (λ h. not-accepted (rw (d, h) at e)))
     (λ c d. not-accepted (rw d at e))
+
+pub write-inv : (m : Message) (v : ℤ) (lent : List ℕ) (st : Tables) (out r : List ℕ) (n : ℕ) (after : List ℕ) → writeAnswer m v lent st out ≡ (accepted r n, after) → Wrote (made m v lent st) out n after
+unfolding writeAnswer
+write-inv m v lent st = stored-inv (made m v lent st)
 
 -- the law of writing: the whole read of what was written accepts it, at that version, and its tables mean what the written tables meant
 pub written-reads : (m : Message) → proper m ≡ true → (v : ℤ) (lent : List ℕ) (st : Tables) (bs : List ℕ) (n : ℕ) → (d : Made m v lent st bs n) → (w : Bool) → Laid w (shape m (d .version)) (suc (m .tables)) bs (meant lent st (shape m (d .version))) (length bs)

@@ -23,7 +23,7 @@ use Rattle.layout.proofs.Kept.{kept-cell}
 use Rattle.layout.proofs.Local.{locals}
 use Rattle.layout.proofs.Parts.{Eating}
 use Rattle.layout.proofs.Proper.{Owes, owed, proper}
-use Rattle.layout.proofs.Refusals.{tells-rows, telling}
+use Rattle.layout.proofs.Refusals.{Refuses, early, tells-rows, telling}
 use Rattle.layout.proofs.Steps.{by-result, given, int-inv, int-ok, not-ok, passed, then-ok}
 use Rattle.layout.proofs.Tests.{by-test, le-false, le-true, lt-false, lt-true, of-ge, of-le}
 use Rattle.layout.proofs.Trip.{Laid, lays}
@@ -82,32 +82,27 @@ outside s h o = rw (number-is s h) (go (signed w32 (be 0 (take 4 s))) refl o)
 
 -- ---- what is refused: a number of the table, and a place in what was lent
 
-pub record FrameRefuses (s : List ℕ) (e : Refusal) : Type 0 where
-  pub least : 1 ≤ e .number
-  pub greatest : e .number ≤ 14
-  pub place-in : e .place ≤ length s
-  pub no-need : e .need ≡ 0
+-- `seen-refuses` for frames, which have 14
+refuses-at : (s : List ℕ) (n : ℕ) → 1 ≤ n → n ≤ 14 → {A : Type 0} (e : Refusal) → _≡_ {A = Res A} (bad (because n 0)) (bad e) → Refuses 14 s e
+refuses-at s n a b e d = early 14 s n a b e cc
 
-refuses-at : (s : List ℕ) (n : ℕ) → 1 ≤ n → n ≤ 14 → {A : Type 0} (e : Refusal) → _≡_ {A = Res A} (bad (because n 0)) (bad e) → FrameRefuses s e
-refuses-at s n a b e d = let x : because n 0 ≡ e = cc in subst (FrameRefuses s) x (record { least = a; greatest = b; place-in = omega arith; no-need = refl })
-
-size-refuses : (s : List ℕ) (e : Refusal) → frameSize s ≡ bad e → FrameRefuses s e
+size-refuses : (s : List ℕ) (e : Refusal) → frameSize s ≡ bad e → Refuses 14 s e
 unfolding frameSize
 size-refuses s e d = by-result (cell w32 0 s) (λ n k i. judge n k (rw i at d)) (λ c i. of-cell c i (rw i at d))
   where
-    of-cell : (c : Refusal) → cell w32 0 s ≡ bad c → _≡_ {A = Res ℕ} (bad c) (bad e) → FrameRefuses s e
+    of-cell : (c : Refusal) → cell w32 0 s ≡ bad c → _≡_ {A = Res ℕ} (bad c) (bad e) → Refuses 14 s e
     of-cell c i j =
         let x : c ≡ e = cc in
         let t = kept-cell telling w32 .1 .law 0 s e (i ∙ ap bad x) in
         record { least = (let k = t .least in omega arith); greatest = (let k = t .greatest in omega arith); place-in = (let k = t .before-end in omega arith); no-need = t .no-need }
 
-    judge : (n k : ℕ) → sizeOf (length s) (ok n k) ≡ bad e → FrameRefuses s e
+    judge : (n k : ℕ) → sizeOf (length s) (ok n k) ≡ bad e → Refuses 14 s e
     judge n k f =
         by-test (leb n most)
         (λ a. by-test (leb (k + n) (length s)) (λ b. let z : _≡_ {A = Res ℕ} (ok n (k + n)) (bad e) = rw (a, b) at f in not-ok (sym z)) (λ b. refuses-at s 3 (omega arith) (omega arith) e (let z : _≡_ {A = Res ℕ} (bad (because 3 0)) (bad e) = rw (a, b) at f in z)))
         (λ a. refuses-at s 14 (omega arith) (omega arith) e (let z : _≡_ {A = Res ℕ} (bad (because 14 0)) (bad e) = rw a at f in z))
 
-pub frame-refuses : (h : Header) (v : ℤ) (s : List ℕ) (e : Refusal) → frameSeen h v s ≡ bad e → FrameRefuses s e
+pub frame-refuses : (h : Header) (v : ℤ) (s : List ℕ) (e : Refusal) → frameSeen h v s ≡ bad e → Refuses 14 s e
 unfolding frameSeen
 frame-refuses h (negsuc v) s e d = refuses-at s 1 (omega arith) (omega arith) e d
 frame-refuses h (pos v) s e d =
@@ -117,7 +112,7 @@ frame-refuses h (pos v) s e d =
     R : List ℕ → Res Tables
     R w = readRows false append (shape (withSize (h .rows)) v) 0 (noRows (h .rows)) 0 w
 
-    in-header : (n z : ℕ) → frameSize s ≡ ok n z → (o : Res Tables) → R (take z s) ≡ o → withBody z o ≡ bad e → FrameRefuses s e
+    in-header : (n z : ℕ) → frameSize s ≡ ok n z → (o : Res Tables) → R (take z s) ≡ o → withBody z o ≡ bad e → Refuses 14 s e
     in-header n z i (ok [] k) j f = not-ok (sym f)
     in-header n z i (ok (c ∷ st) k) j f = not-ok (sym f)
     in-header n z i (bad c) j f =
@@ -127,7 +122,7 @@ frame-refuses h (pos v) s e d =
         let g = size-inv s n z i .there in
         record { least = (let k = t .least in omega arith); greatest = (let k = t .greatest in omega arith); place-in = (let k = t .before-end in omega arith); no-need = t .no-need }
 
-    in-bytes : (o : Res ℕ) → frameSize s ≡ o → inFrame s R o ≡ bad e → FrameRefuses s e
+    in-bytes : (o : Res ℕ) → frameSize s ≡ o → inFrame s R o ≡ bad e → Refuses 14 s e
     in-bytes (ok n z) i f = in-header n z i (R (take z s)) refl f
     in-bytes (bad c) i f = let x : c ≡ e = cc in size-refuses s e (i ∙ ap bad x)
 

@@ -1,10 +1,9 @@
 -- The headers of requests and responses: their fields in full; what they owe so that the laws of frames are theirs, computed; and their rows as they come back, in numbers.
-use mathlib.Core.Bool.{cond, true}
+use mathlib.Core.Bool.{true}
 use mathlib.Core.List.{List, [], _∷_}
 use mathlib.Core.Path.{_≡_, refl}
 use Prim.Native.Nat.{_≤_, suc, zero, ℕ}
 use native.Mathlib.Omega.{arith}
-use lib.Dec.{eqb}
 use Rattle.layout.specs.Primitives.{fixed, kept, minus, plain, w16, w32}
 use Rattle.layout.specs.Rows.{absent, array, at, blob, end, field, lacking, natural, number, standing, stands, tagRows, text}
 use Rattle.layout.specs.Tables.{Tables, addsUp, all, arrays, asked, from, good, goodCells, goodRow, kindIn, kindOf, rowWidth, rowsAt, slice, sum, width}

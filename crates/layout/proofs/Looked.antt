@@ -36,7 +36,7 @@ module _ (node : ℕ) (v : ℤ) (s : List ℕ) where
   as-prefix-read e h room = read-refused response v s room false e (lookup-refuses e .0 h)
 
   -- so 10 is never given
-  pub lookup-tells : (e : Refusal) → lookup node v s ≡ refused e → Refuses s e
+  pub lookup-tells : (e : Refusal) → lookup node v s ≡ refused e → Refuses 9 s e
   lookup-tells e h = seen-refuses false response v s e (lookup-refuses e .0 h)
 
   -- what is accepted is decided by the first row of the node

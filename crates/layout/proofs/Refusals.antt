@@ -112,32 +112,32 @@ tells-rows w add l o st = record {
       by-result (read (byPlace w) l p s) (λ x n i. not-ok (sym (rw i at q))) (λ c i. tells-read w l .law p s e (i ∙ same-bad (rw i at q)));
 }
 
--- what a call refuses before it looks at the room
-pub record Refuses (s : List ℕ) (e : Refusal) : Type 0 where
+-- what a call refuses before it asks for room: a number up to `top`, and a place in the message
+pub record Refuses (top : ℕ) (s : List ℕ) (e : Refusal) : Type 0 where
   pub least : 1 ≤ e .number
-  pub greatest : e .number ≤ 9
+  pub greatest : e .number ≤ top
   pub place-in : e .place ≤ length s
   pub no-need : e .need ≡ 0
 
-early : (s : List ℕ) (n : ℕ) → 1 ≤ n → n ≤ 9 → (e : Refusal) → because n 0 ≡ e → Refuses s e
-early s n h g e x = subst (Refuses s) x (record { least = h; greatest = g; place-in = omega arith; no-need = refl })
+pub early : (top : ℕ) (s : List ℕ) (n : ℕ) → 1 ≤ n → n ≤ top → (e : Refusal) → because n 0 ≡ e → Refuses top s e
+early top s n h g e x = subst (Refuses top s) x (record { least = h; greatest = g; place-in = omega arith; no-need = refl })
 
-pub seen-refuses : (w : Bool) (m : Message) (v : ℤ) (s : List ℕ) (e : Refusal) → seen w m v s ≡ bad e → Refuses s e
+pub seen-refuses : (w : Bool) (m : Message) (v : ℤ) (s : List ℕ) (e : Refusal) → seen w m v s ≡ bad e → Refuses 9 s e
 unfolding seen
-seen-refuses w m (negsuc v) s e d = early s 1 (omega arith) (omega arith) e (cc)
+seen-refuses w m (negsuc v) s e d = early 9 s 1 (omega arith) (omega arith) e (cc)
 seen-refuses w m (pos v) s e d =
     by-test (leb v (m .last))
     (λ a. by-test (leb (length s) most)
     (λ b. by-result (readRows w append (shape m v) 0 (replicate (suc (m .tables)) []) 0 s) (λ st n i. over-end st n w (rw (a, b, i) at d)) (λ c i. inside c (tells-rows w append (shape m v) 0 _ .law 0 s c i) (rw (a, b, i) at d)))
-    (λ b. let g : _≡_ {A = Res Tables} (bad (because 2 0)) (bad e) = rw (a, b) at d in early s 2 (omega arith) (omega arith) e (cc)))
-    (λ a. let g : _≡_ {A = Res Tables} (bad (because 1 0)) (bad e) = rw a at d in early s 1 (omega arith) (omega arith) e (cc))
+    (λ b. let g : _≡_ {A = Res Tables} (bad (because 2 0)) (bad e) = rw (a, b) at d in early 9 s 2 (omega arith) (omega arith) e (cc)))
+    (λ a. let g : _≡_ {A = Res Tables} (bad (because 1 0)) (bad e) = rw a at d in early 9 s 1 (omega arith) (omega arith) e (cc))
   where
-    over-end : (st : Tables) (n : ℕ) (q : Bool) → ended q (length s) (ok st n) ≡ bad e → Refuses s e
+    over-end : (st : Tables) (n : ℕ) (q : Bool) → ended q (length s) (ok st n) ≡ bad e → Refuses 9 s e
     over-end st n false d = not-ok (sym d)
     over-end st n true d =
         by-test (ltb n (length s))
-        (λ h. let g : _≡_ {A = Res Tables} (bad (because 9 n)) (bad e) = rw h at d in let x : because 9 n ≡ e = cc in subst (Refuses s) x (record { least = omega arith; greatest = omega arith; place-in = omega (arith, of-lt n (length s) h); no-need = refl }))
+        (λ h. let g : _≡_ {A = Res Tables} (bad (because 9 n)) (bad e) = rw h at d in let x : because 9 n ≡ e = cc in subst (Refuses 9 s) x (record { least = omega arith; greatest = omega arith; place-in = omega (arith, of-lt n (length s) h); no-need = refl }))
         (λ h. not-ok (sym (rw h at d)))
 
-    inside : (c : Refusal) → Told 0 s c → _≡_ {A = Res Tables} (bad c) (bad e) → Refuses s e
-    inside c t d = let x : c ≡ e = cc in subst (Refuses s) x (record { least = omega (arith, t .least); greatest = omega (arith, t .greatest); place-in = omega (arith, t .before-end); no-need = t .no-need })
+    inside : (c : Refusal) → Told 0 s c → _≡_ {A = Res Tables} (bad c) (bad e) → Refuses 9 s e
+    inside c t d = let x : c ≡ e = cc in subst (Refuses 9 s) x (record { least = omega (arith, t .least); greatest = omega (arith, t .greatest); place-in = omega (arith, t .before-end); no-need = t .no-need })

@@ -10,7 +10,7 @@ use lib.Signed.{leZ, nonNeg}
 use mir.Syntax.{w64}
 use mir.Val.{Fits, SFits}
 use borrow.Author.Tests.{le-ltb}
-use Rattle.layout.specs.Primitives.{cellOf}
+use Rattle.layout.specs.Primitives.{Width, bits, cellOf, holds}
 use Rattle.layout.proofs.Tests.{le-false, le-true, lt-false, lt-true}
 use Rattle.primitives_put.specs.Answers.{within}
 
@@ -37,6 +37,11 @@ minus (pos n) h e = let z : _≡_ {A = ℕ} 0 1 = cc (leb·zero n) in absurd (om
 minus (negsuc n) h e =
     let less-one : negsuc 0 -ℤ negsuc n ≡ pos n = rw (le-ltb (suc n) 1 (omega arith)) (ap pos (omega arith)) in
     subst (Minus (negsuc n)) (sym less-one) (record { narrow = omega arith; sign = tt; small = omega arith; below = omega arith; is = omega arith })
+
+-- what the code asks of a cell is what its width holds
+pub is-held : (w : Width) (n : ℕ) → within (2 ^ (bits w - 1)) n ≡ holds w n
+unfolding within holds
+is-held w n = refl
 
 -- a cell that holds a small number: from 0 on, or below 0
 module _ (half c : ℕ) where

@@ -14,7 +14,7 @@ use borrow.Rule.Slice.PartMut.{midOf, putMid}
 use Rattle.layout.specs.Answers.{Answer, refused, shape, tagsAlone, writeAlone, writeAnswer}
 use Rattle.layout.specs.Primitives.{lengthBytes, plain, sizedBytes, unsignedBytes}
 use Rattle.layout.specs.Reading.{Refusal, because}
-use Rattle.layout.specs.Rows.{at, standing, stands, tagRows}
+use Rattle.layout.specs.Rows.{Shape, absent, at, blob, end, natural, standing, stands, tagRows}
 use Rattle.layout.specs.Tables.{Tables, arrays, asked, basicOf, chunks, count, good, goodCells, goodCount, goodRow, goodSpan, inside, kindIn, kindOf, pop, rowWidth, rowsOf, slice, spanOf, valueOf, width}
 use Rattle.layout.specs.Write.{basicFault, fault, firstOf, or, sizedFault, tooLong, unless, write, writeBasic}
 use Rattle.layout.proofs.Proper.{both}
@@ -128,6 +128,19 @@ module _ (size c : ℕ) (table : List ℕ) where
 
   pub good-rows : judged ≡ true → count c ≡ length table / 3
   good-rows g = of-eq (count c) (length table / 3) (both (allRanged 3 1 size table) _ (both (goodCount true c) _ (sym is-good ∙ g) .1) .1)
+
+pub and-assoc : (a b c : Bool) → ((a && b) && c) ≡ (a && (b && c))
+and-assoc true b c = refl
+and-assoc false b c = refl
+
+-- 13 of a row that ends with tags which its version lacks, c of them; x is what is asked of its other fields
+pub tagged-good : (size : ℕ) (l : Shape) (x : Bool) (c : ℕ) (row tags : List ℕ) → kindOf 1 l ≡ absent natural (absent (blob plain) end) → goodRow size l row ≡ (x && goodCount true c) → asked 1 l row ≡ count c →
+    good size 1 l (row ∷ tags ∷ []) ≡ (x && good size 1 (tagsShape true 1) ((c ∷ []) ∷ tags ∷ []))
+unfolding rowWidth width goodRow goodCells asked
+tagged-good size l x c row tags kind own-good own-told =
+    good-one size l (absent natural (absent (blob plain) end)) 3 1 (count c) _ row tags kind refl own-good own-told (tag-good size) (λ r. refl)
+    ∙ and-assoc x (goodCount true c) (allRanged 3 1 size tags && eqb (count c) (length tags / 3))
+    ∙ ap (λ (y : Bool). x && y) (sym (is-good size c tags))
 
 -- ---- the call
 

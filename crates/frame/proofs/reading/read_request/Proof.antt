@@ -11,7 +11,7 @@ returns : tie.Need-returns
 returns c = reply-below _ request-ready _ _ (passed _ (c .before .before .before .before .before .fits .number) _ (c .before .before .version-of .ensures)) _ _ (c .before .if1 .taken) _ (c .at .ensures)
 
 returns-2 : tie.Need-returns-2
-returns-2 c = reply-above _ request-ready _ _ (passed _ (c .before .before .before .before .before .before .fits .number) _ (c .before .before .before .version-of .ensures)) _ _ (c .before .before .if1 .left) (c .before .if2 .taken) _ (c .at2 .ensures)
+returns-2 c = reply-above _ request-ready _ _ (passed _ (c .before .before .before .before .before .before .fits .number) _ (c .before .before .before .version-of .ensures)) _ _ (c .before .if2 .taken) _ (c .at2 .ensures)
 
 returns-3 : tie.Need-returns-3
 returns-3 c = reply-size _ request-ready _ _ (passed _ (c .before .before .before .before .before .before .before .before .before .fits .number) _ (c .before .before .before .before .before .before .version-of .ensures)) _ _ (c .before .before .before .before .before .if1 .left) (c .before .before .before .before .if2 .left) _ (ap ofNumber (sym (c .before .e .given .1)) ∙ c .before .before .before .frame-size .ensures)

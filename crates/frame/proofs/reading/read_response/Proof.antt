@@ -9,7 +9,7 @@ use Rattle.frame.proofs.reading.read_response.Statement.{statement}
 use Rattle.frame.proofs.reading.read_response.Tie as tie
 
 returns : tie.Need-returns
-returns c = reply-above _ response-ready _ _ (passed _ (c .before .before .before .before .before .fits .number) _ (c .before .before .version-of .ensures)) _ _ (omega arith) (c .before .if1 .taken) _ (c .at .ensures)
+returns c = reply-above _ response-ready _ _ (passed _ (c .before .before .before .before .before .fits .number) _ (c .before .before .version-of .ensures)) _ _ (c .before .if1 .taken) _ (c .at .ensures)
 
 returns-2 : tie.Need-returns-2
 returns-2 c = reply-size _ response-ready _ _ (passed _ (c .before .before .before .before .before .before .before .before .fits .number) _ (c .before .before .before .before .before .version-of .ensures)) _ _ (omega arith) (c .before .before .before .before .if1 .left) _ (ap ofNumber (sym (c .before .e .given .1)) ∙ c .before .before .before .frame-size .ensures)

@@ -3,7 +3,7 @@ use mathlib.Core.Path.{_∙_}
 use borrow.Author.Tests.{not-false, not-true}
 use Rattle.layout.specs.Primitives.{w16, w32}
 use Rattle.body_writing.proofs.Judged.{and-first, and-second}
-use Rattle.frame.proofs.Written.{is-held}
+use Rattle.primitives_put.proofs.Carried.{is-held}
 use borrow.Author.Needs.{needs}
 use Rattle.frame.proofs.writing.numbers_fit.Statement.{statement}
 use Rattle.frame.proofs.writing.numbers_fit.Tie as tie

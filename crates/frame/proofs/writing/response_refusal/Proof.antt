@@ -5,7 +5,7 @@ use borrow.Author.Tests.{not-false, not-true}
 use Rattle.layout.specs.Primitives.{w32}
 use Rattle.body_writing.proofs.Faults.{unless-bad, unless-none}
 use Rattle.frame.proofs.ResponseWritten.{response-bad, response-told}
-use Rattle.frame.proofs.Written.{is-held}
+use Rattle.primitives_put.proofs.Carried.{is-held}
 use borrow.Author.Needs.{needs}
 use Rattle.frame.proofs.writing.response_refusal.Statement.{statement}
 use Rattle.frame.proofs.writing.response_refusal.Tie as tie

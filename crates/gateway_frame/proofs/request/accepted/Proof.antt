@@ -5,9 +5,10 @@ use Rattle.gateway_frame.proofs.request.accepted.Statement.{statement}
 use Rattle.gateway_frame.proofs.request.accepted.Tie as tie
 
 returns : tie.Need-returns
-returns c = client-told _ _ _ _ _ _ _ (c .before .before .before .args .header .«client_id») _ _ _ (c .before .before .field-kind .ensures) (c .before .field-start .ensures) (c .field-length .ensures)
+returns c = client-told _ _ _ _ _ _ _ (c .before .before .before .before .args .header .«client_id») _ _ _ _ (c .before .before .before .accepted .ensures) (c .before .before .field-kind .ensures) (c .before .field-start .ensures) (c .field-length .ensures)
 
 pub accepted-spec : {M : Type 1} → statement M
 accepted-spec =
-    tie.close (tie.spec
-    (λ c κs. search needs) (λ c κs. search needs) (λ c κs. search needs) returns)
+    tie.close
+    (tie.spec
+    (λ c κs. search needs) (λ c κs. search needs) (λ c κs. search needs) (λ c κs. search needs) returns)

@@ -2,18 +2,20 @@
 use mathlib.Core.Path.{_∙_, ap, sym}
 use Rattle.frame.specs.Answers.{ofRequestFrame}
 use Rattle.frame.specs.declared.RequestFrame.{RequestFrame}
-use Rattle.gateway_frame.specs.Replies.{requestNumbers}
+use Rattle.gateway_frame.specs.Replies.{requestFrameNumbers}
+use Rattle.gateway_frame.proofs.Rows.{no-request}
 use borrow.Author.Needs.{needs}
 use Rattle.gateway_frame.proofs.request.reply.Statement.{statement}
 use Rattle.gateway_frame.proofs.request.reply.Tie as tie
 
 returns : tie.Need-returns
-returns c = c .accepted .ensures ∙ ap (λ (x : RequestFrame). requestNumbers (ofRequestFrame x)) (sym (c .before .before .r .given .1))
+returns c = c .accepted .ensures ∙ ap (λ (x : RequestFrame). requestFrameNumbers (ofRequestFrame x)) (sym (c .before .before .r .given .1))
 
 returns-2 : tie.Need-returns-2
-returns-2 c = ap (λ (x : RequestFrame). requestNumbers (ofRequestFrame x)) (sym (c .before .before .r2 .given .1))
+returns-2 c = no-request _ _ (c .refused .ensures) ∙ ap (λ (x : RequestFrame). requestFrameNumbers (ofRequestFrame x)) (sym (c .before .before .r2 .given .1))
 
 pub reply-spec : {M : Type 1} → statement M
 reply-spec =
-    tie.close (tie.spec
-    (λ c. search needs) (λ c κs. search needs) (λ c. search needs) (λ c. search needs) returns returns-2)
+    tie.close
+    (tie.spec
+    (λ c. search needs) (λ c κs. search needs) (λ c. search needs) (λ c κs. search needs) returns returns-2)
