@@ -8,6 +8,7 @@ mod frames;
 #[allow(dead_code)]
 #[path = "../../binding/src/raw.rs"]
 mod raw;
+mod varints;
 
 // Linked for its library alone: the calls are made as C makes them.
 use befrolan as _;
@@ -294,6 +295,7 @@ fn main() {
         frames::written(timed, length);
     }
     primitives(timed);
+    varints::rows(timed);
     // cost against size, from 1 KiB to 1 MiB
     for items in [150, 600, 2400, 149_000] {
         api_versions(timed, &mut t, items);

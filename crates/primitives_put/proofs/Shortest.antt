@@ -1,14 +1,16 @@
--- The shortest form of an unsigned varint, byte by byte, and the loop that stores it.
+-- The shortest form of an unsigned varint: byte by byte, its length, and the loop that stores it.
 use mathlib.Core.Bool.{Bool, cond, false, true}
 use mathlib.Core.List.{List, [], _++_, _∷_}
-use mathlib.Core.Path.{_∙_, _≡_, ap, refl, sym}
-use Prim.Native.Nat.{_%_, _*_, _+_, _/_, _<_, _^_, _≤_, suc, zero, ℕ}
+use mathlib.Core.Path.{_∙_, _≡_, ap, refl, subst, sym}
+use Prim.Native.Nat.{_%_, _*_, _+_, _-_, _/_, _<_, _^_, _≤_, suc, zero, ℕ}
 use native.Mathlib.Decide.{decLt}
 use native.Mathlib.Nat.{mod-eq-of-lt, pow-suc, zero-add}
 use native.Mathlib.Numerals.{add-one}
 use native.Mathlib.Omega.{arith}
+use lib.Count.{leadingZeros, leading-length}
 use lib.Dec.{ltb}
 use lib.ListN.{drop, length, length-set, set, take}
+use lib.Pow.{pow-add, pow-mono}
 use lib.Seq.{append-snoc, drop-set-lt, set-split, take-suc-set}
 use Rattle.layout.specs.Primitives.{bytes, shortest, unsignedBytes}
 use Rattle.layout.proofs.Tests.{lt-false, lt-true}
@@ -42,6 +44,10 @@ pub unsigned-last : (n : ℕ) → n < 128 → unsignedBytes n ≡ n ∷ []
 unfolding unsignedBytes
 unsigned-last n h = low 9 n h
 
+-- one byte, which is the lowest of the number
+pub put-one : {n r : ℕ} {d d′ : List ℕ} → n < 128 → Put (bytes 1 n) d r d′ → Put (unsignedBytes n) d r d′
+put-one {n} {r} {d} {d′} h = subst (λ (bs : List ℕ). Put bs d r d′) (one-byte n (omega arith) ∙ sym (unsigned-last n h))
+
 pub unsigned-more : (n : ℕ) → 128 ≤ n → n < 2 ^ 64 → unsignedBytes n ≡ (128 + n % 128) ∷ unsignedBytes (n / 128)
 unfolding unsignedBytes
 unsigned-more n h i = high 8 n h ∙ ap (λ (s : List ℕ). (128 + n % 128) ∷ s) (enough 8 9 (n / 128) (omega arith) (omega arith))
@@ -60,6 +66,33 @@ shortest-length (suc k) n = go (ltb n 128) (shortest-length k (n / 128))
 pub unsigned-length : (n : ℕ) → (1 ≤ length (unsignedBytes n)) × (length (unsignedBytes n) ≤ 10)
 unfolding unsignedBytes
 unsigned-length n = shortest-length 9 n
+
+-- up to seven bits, and none, take one byte
+few-bits : (k n m : ℕ) → m ≤ 7 → n < 2 ^ m → length (shortest k n) ≡ suc ((m - 1) / 7)
+few-bits k n m h a = ap length (low k n (omega (arith, a, pow-mono {i = m} {j = 7} h))) ∙ (let e : 1 ≡ suc ((m - 1) / 7) = omega arith in e)
+
+-- n has m significant bits: 2 ^ m is the least power above it. Each byte takes seven of them
+shortest-bits : (k n m : ℕ) → m ≤ 7 * suc k → n < 2 ^ m → 2 ^ m ≤ 2 * n + 1 → length (shortest k n) ≡ suc ((m - 1) / 7)
+shortest-bits zero n m h a b = few-bits zero n m (omega arith) a
+shortest-bits (suc k) n m h a b =
+    elim (decLt 7 m) [
+      | no l ↦ few-bits (suc k) n m (omega arith) a
+      | yes l ↦
+          let i : ℕ = m - 7 in
+          let e : 2 ^ m ≡ 2 ^ i * 2 ^ 7 = ap (λ (x : ℕ). 2 ^ x) (let d : m ≡ i + 7 = omega arith in d) ∙ pow-add 2 i 7 in
+          let p : 2 ≤ 2 ^ i = pow-mono {i = 1} {j = i} (omega arith) in
+          ap length (high k n (omega (arith, e, p, b)))
+          ∙ ap suc (shortest-bits k (n / 128) i (omega arith) (omega (arith, e, a)) (omega (arith, e, b)))
+          ∙ (let d : suc (suc ((i - 1) / 7)) ≡ suc ((m - 1) / 7) = omega arith in d)
+    ]
+
+-- the significant bits of n divided by seven, rounded up, and one byte for 0, which has none
+pub unsigned-bits : (n : ℕ) → n < 2 ^ 64 → length (unsignedBytes n) ≡ suc ((64 - leadingZeros 64 n - 1) / 7)
+unfolding unsignedBytes
+unsigned-bits n h =
+    let t = leading-length 64 n h in
+    let e : t .0 ≡ 64 - leadingZeros 64 n = omega (arith, t .1) in
+    shortest-bits 9 n (t .0) (omega (arith, t .1)) (t .2) (t .3) ∙ ap (λ (m : ℕ). suc ((m - 1) / 7)) e
 
 -- p bytes are stored, and those of `left` are to follow: between what stands before p and what stands behind them, they make what was asked
 pub record Up (d : List ℕ) (n : ℕ) (out : List ℕ) (left p : ℕ) : Type 0 where

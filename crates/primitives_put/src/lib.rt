@@ -65,23 +65,24 @@ pub fn boolean(out: &mut [u8], value: bool) -> usize
     lowest(out, value as u64, 1)
 }
 
-// How many bytes the shortest form of n has.
+// How many bytes the shortest form of n has: its significant bits divided by seven, rounded up; 0 takes one byte.
 pub(crate) fn varint_length(n: u64) -> usize
     ensures { λ r. ⌜ r ≡ length (unsignedBytes n) ⌝ }
 {
-    let mut count: usize = 1;
-    let mut left = n;
-    while 128 <= left {
-        left = left / 128;
-        count = count + 1;
+    let bits = 64 - u64::leading_zeros(n);
+    if bits == 0 {
+        return 1;
     }
-    count
+    ((bits + 6) / 7) as usize
 }
 
-// Seven bits a byte, lowest first, in the shortest form.
+// Seven bits a byte, lowest first, in the shortest form. Most have one byte.
 pub fn unsigned_varint(out: &mut [u8], n: u64) -> usize
     ensures { λ r. ⌜ Put (unsignedBytes n) (now (out .entry)) r (now (out .exit)) ⌝ }
 {
+    if n < 128 {
+        return lowest(out, n, 1);
+    }
     let count = varint_length(n);
     if count <= out.len() {
         let mut left = n;
@@ -192,10 +193,13 @@ fn compact_length(out: &mut [u8], n: u64) -> usize
     raw(out, &[128, 128, 128, 128, 128, 128, 128, 128, 128, 2])
 }
 
-// How many bytes that takes.
+// How many bytes that takes. Most lengths take one.
 fn compact_size(n: u64) -> usize
     ensures { λ r. ⌜ r ≡ length (unsignedBytes (n + 1)) ⌝ }
 {
+    if n < 127 {
+        return 1;
+    }
     if n < 18446744073709551615 {
         return varint_length(n + 1);
     }

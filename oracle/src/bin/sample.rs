@@ -1,13 +1,14 @@
 //! sample SEED CASES EXPECTED
 //! sample letters CASES EXPECTED
 //! sample frames CASES EXPECTED
+//! sample varints CASES EXPECTED
 //!
 //! A list to store and replay without Rust: the worked examples, then of every kind of case and answer a few; or some texts
-//! that are not well-formed; or some frames.
+//! that are not well-formed; or some frames; or varints where their length changes.
 use oracle::case::Case;
 use oracle::judge::{judge, Verdict};
 use oracle::line::{Lent, Word};
-use oracle::make::{self, examples, frames, letters, rng::Rng};
+use oracle::make::{self, examples, frames, letters, rng::Rng, varints};
 use oracle::model::write::Own;
 use std::collections::BTreeMap;
 use std::io::Result;
@@ -28,13 +29,14 @@ fn main() -> ExitCode {
     let asked = match &words[..] {
         [list, cases, expected] if list == "letters" => Some(run_list(&letters::stored(), cases, expected)),
         [list, cases, expected] if list == "frames" => Some(run_list(&frames::stored::stored(), cases, expected)),
+        [list, cases, expected] if list == "varints" => Some(run_list(&varints::stored(), cases, expected)),
         [seed, cases, expected] => seed.parse().ok().map(|seed| run(seed, cases, expected)),
         _ => None,
     };
     match asked {
         Some(Ok(())) => ExitCode::SUCCESS,
         Some(Err(e)) => failed(&e.to_string()),
-        None => failed("sample SEED CASES EXPECTED, or sample letters or frames CASES EXPECTED"),
+        None => failed("sample SEED CASES EXPECTED, or sample letters, frames or varints CASES EXPECTED"),
     }
 }
 

@@ -12,6 +12,7 @@ pub mod metadata;
 pub mod others;
 pub mod reads;
 pub mod rng;
+pub mod varints;
 pub mod wire;
 pub mod writes;
 pub mod written;
@@ -111,6 +112,7 @@ fn fixed(seed: u64) -> Vec<Section> {
         written::of_numbers(),
         written::of_contents(),
         written::of_bodies(),
+        varints::section(),
         others::agreements(),
         metadata::ends::counts(seed),
         metadata::ends::texts(seed),

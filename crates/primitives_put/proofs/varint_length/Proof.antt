@@ -1,28 +1,18 @@
-use mathlib.Core.Path.{_≡_, ap}
-use Prim.Native.Nat.{_+_, _≤_}
+use borrow.Author.Needs.{needs}
 use native.Mathlib.Omega.{arith}
-use lib.ListN.{length}
-use Rattle.layout.specs.Primitives.{unsignedBytes}
-use Rattle.primitives_put.proofs.Shortest.{unsigned-last, unsigned-length, unsigned-more}
+use lib.Count.{leading-le}
+use Rattle.primitives_put.proofs.Shortest.{unsigned-bits}
 use Rattle.primitives_put.proofs.varint_length.Statement.{statement}
 use Rattle.primitives_put.proofs.varint_length.Tie as tie
 
-abbrev Inv-loop : tie.InvT-loop
-Inv-loop n count₀ left₀ count left = (left ≤ n) × (count + length (unsignedBytes left) ≡ length (unsignedBytes n) + 1)
+sub-bits : tie.Need-sub-bits
+sub-bits c = omega (arith, leading-le 64 (c .args .n))
 
-abbrev μ-loop : tie.MeasureT-loop
-μ-loop n count₀ left₀ count left = left
+returns : tie.Need-returns
+returns c = omega (arith, unsigned-bits (c .before .args .n) (omega arith))
 
-add-count : tie.Need-add-count Inv-loop μ-loop
-add-count c = omega (arith, unsigned-length (c .before .before .args .n))
-
-loop-again : tie.Need-loop-again Inv-loop μ-loop
-loop-again c = omega (arith, ap length (unsigned-more (c .before .loop .left) (c .loop-test .taken) (omega arith)))
-
-returns : tie.Need-returns Inv-loop μ-loop
-returns c = omega (arith, ap length (unsigned-last (c .before .loop .left) (c .loop-test .left)))
+returns-2 : tie.Need-returns-2
+returns-2 c = omega (arith, unsigned-bits (c .before .args .n) (omega arith))
 
 pub varint-length-spec : {M : Type 1} → statement M
-varint-length-spec =
-    tie.close (tie.spec
-    Inv-loop μ-loop (λ c. omega arith) add-count (λ c. omega arith) loop-again returns)
+varint-length-spec = tie.close (tie.spec sub-bits returns (λ c. search needs) (λ c. search needs) returns-2)
