@@ -249,11 +249,19 @@ fn primitive(timed: bool, what: &str, body: &[u8], kind: u64, theirs: impl Fn() 
     row(timed, what, turns, || (0..TURNS).for_each(|_| keep(ours())), || (0..TURNS).for_each(|_| keep(theirs())));
 }
 
+/// The greatest number whose varint has so many bytes, of one to ten.
+fn greatest(bytes: usize) -> u64 {
+    if bytes == 10 {
+        u64::MAX
+    } else {
+        (1 << (7 * bytes)) - 1
+    }
+}
+
 fn primitives(timed: bool) {
     for k in 1..=10usize {
-        let n = if k == 10 { u64::MAX } else { (1 << (7 * k)) - 1 };
         let mut body = Vec::new();
-        UnsignedVarint(n).write(&mut body).unwrap();
+        UnsignedVarint(greatest(k)).write(&mut body).unwrap();
         let theirs = || UnsignedVarint::read(&mut Cursor::new(black_box(&body[..]))).unwrap().0;
         primitive(timed, &format!("unsigned varint of {k} bytes"), &body, UNSIGNED_VARINT, theirs);
     }

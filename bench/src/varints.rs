@@ -1,6 +1,6 @@
 //! Writes that have varints: one by itself, a compact text, and bodies and a header with tags.
 
-use crate::{bodies, keep, raw, row, Each, TURNS, UNSIGNED_VARINT};
+use crate::{bodies, greatest, keep, raw, row, Each, TURNS, UNSIGNED_VARINT};
 use oracle::protocol::api_key::ApiKey;
 use oracle::protocol::messages::*;
 use oracle::protocol::primitives::{CompactString, Int32, NullableString, TaggedFields, UnsignedVarint};
@@ -161,7 +161,7 @@ fn header(timed: bool) {
 
 pub fn rows(timed: bool) {
     for k in 1..=10usize {
-        let n = if k == 10 { u64::MAX } else { (1 << (7 * k)) - 1 };
+        let n = greatest(k);
         let theirs = |out: &mut Vec<u8>| UnsignedVarint(black_box(n)).write(out).unwrap();
         primitive(timed, &format!("unsigned varint of {k} bytes"), UNSIGNED_VARINT, n, &[], theirs);
     }

@@ -26,7 +26,7 @@ fn read(name: &str, hex: &str) -> Case {
     Case::Read { call, message: bytes(hex) }
 }
 
-fn write(name: &str, room: usize, value: Value) -> Case {
+pub fn write(name: &str, room: usize, value: Value) -> Case {
     let call = PRIMITIVES.iter().find(|call| call.write == name).expect("a primitive");
     Case::Write { call, room, value }
 }

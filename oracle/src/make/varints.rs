@@ -1,7 +1,8 @@
 //! Varints to write, where their length changes: the last number of so many bytes, and the first that needs one more. Each has
 //! just the room that it needs and, of those by themselves and of all of them as tags, also a byte less.
+use super::examples::write;
 use super::Section;
-use crate::calls::{PRIMITIVES, WRITE_TAGGED_FIELDS};
+use crate::calls::WRITE_TAGGED_FIELDS;
 use crate::case::Case;
 use crate::model::write::{Own, Value};
 
@@ -31,11 +32,6 @@ pub const LENGTHS: [(u64, usize); 20] = [
 
 /// The most contents that are laid out after a compact length.
 const MOST_CONTENTS: u64 = 16_383;
-
-fn write(name: &str, room: usize, value: Value) -> Case {
-    let call = PRIMITIVES.iter().find(|call| call.write == name).expect("a primitive");
-    Case::Write { call, room, value }
-}
 
 /// A Varlong whose zigzag is that number.
 fn varlong(n: u64, room: usize) -> Case {
