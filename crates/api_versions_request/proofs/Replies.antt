@@ -6,7 +6,7 @@ use Prim.Native.Nat.{_/_, _<_, _≤_, ℕ}
 use native.Mathlib.Omega.{arith}
 use lib.IntN.{pos, ℤ}
 use lib.ListN.{length}
-use Rattle.layout.specs.Reading.{Refusal, Res, bad, because, ok}
+use Rattle.layout.specs.Reading.{Refusal, Res, bad, because, noRoom, ok}
 use Rattle.layout.specs.Primitives.{compact, minus, never}
 use Rattle.layout.specs.Rows.{Basic, Shape, at, field, optional, standing, stands, tagRows, text}
 use Rattle.layout.specs.Read.{byPlace, readBasic}
@@ -14,7 +14,7 @@ use Rattle.layout.specs.Tables.{Tables, absentCells, all, arrays, cells, from, 
 use Rattle.layout.specs.Answers.{Answer, accepted, prefixRead, refused, shape, widths}
 use Rattle.layout.specs.Messages.ApiVersions as Api
 use Rattle.layout.specs.Messages.ApiVersions.{requestRows}
-use Rattle.primitives.specs.Answers.{noRoom, ofRefusal, versionOf}
+use Rattle.primitives.specs.Answers.{ofRefusal, versionOf}
 use Rattle.primitives.specs.declared.Refusal as Code
 use Rattle.body_reading.specs.Store.{State, Tab, add, own, put, store, tab}
 use Rattle.body_reading.specs.Tagged.{tagsShape}

@@ -9,7 +9,7 @@ use lib.Dec.{leb, ltb}
 use lib.IntN.{pos, ℤ}
 use lib.ListN.{length}
 use borrow.Author.Tests.{ltb-false}
-use Rattle.layout.specs.Reading.{Refusal, Res, because, ok}
+use Rattle.layout.specs.Reading.{Refusal, Res, because, noRoom, ok}
 use Rattle.layout.specs.Rows.{Shape, at, standing, stands, tagRows}
 use Rattle.layout.specs.Tables.{Tables, all, arrays, from, kindIn, kindOf, rowWidth, width}
 use Rattle.layout.specs.Answers.{Answer, accepted, readAnswer, refused, shape, widths}
@@ -17,7 +17,7 @@ use Rattle.layout.specs.Messages.ApiVersions as Api
 use Rattle.layout.proofs.Local.{not-ok}
 use Rattle.layout.proofs.Proper.{api-response}
 use Rattle.layout.proofs.Tests.{le-false, le-true, of-lt}
-use Rattle.primitives.specs.Answers.{noRoom, ofRefusal, versionOf}
+use Rattle.primitives.specs.Answers.{ofRefusal, versionOf}
 use Rattle.primitives.specs.declared.Refusal as Code
 use Rattle.primitives.proofs.Versions.{known, up-to}
 use Rattle.body_reading.specs.Meter.{short}

@@ -8,7 +8,7 @@ use Prim.Native.Nat.{_<_, _≤_, suc, ℕ}
 use native.Mathlib.Omega.{arith}
 use lib.IntN.{negsuc, pos, ℤ}
 use lib.ListN.{drop, getD, length, replicate}
-use Rattle.layout.specs.Reading.{Refusal, Res, bad, because, ok}
+use Rattle.layout.specs.Reading.{Refusal, Res, bad, because, noRoom, ok}
 use Rattle.layout.specs.Tables.{Tables, append, readRows, rowWidth}
 use Rattle.layout.specs.Answers.{Answer, Message, accepted, most, readAnswer, refused, seen, shape, widths}
 use Rattle.layout.proofs.Calls.{read-refused, seen-inv, seen-prefix, too-long, version-above, version-below}
@@ -141,7 +141,7 @@ module _ (m : Message) (h : proper m ≡ true) (few : slim m ≡ true) (z : ℤ)
       at-z d = d ∙ ap (λ (y : ℤ). readAnswer false m y olds s) (is-known v i .0)
 
       -- 10: the first table too small
-      pub metered-short : (k : ℕ) → short (widths m) ms (lengths olds) ≡ some k → (c : Refusal) → c ≡ record { number = 10; place = 0; need = k } → (refused c, olds) ≡ readAnswer false m z olds s
+      pub metered-short : (k : ℕ) → short (widths m) ms (lengths olds) ≡ some k → (c : Refusal) → c ≡ noRoom k → (refused c, olds) ≡ readAnswer false m z olds s
       metered-short k f c d =
           let a = known-is in
           ap (λ (y : Refusal). (refused y, olds)) d ∙ at-z (sym (reply-needs m h false v s olds many row (a .st) q (a .said) k (ap (λ (ns : List ℕ). short (widths m) ns (lengths olds)) (sym (a .sizes)) ∙ f)))

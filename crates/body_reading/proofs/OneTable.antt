@@ -7,7 +7,7 @@ use Prim.Native.Nat.{_/_, _<_, _≤_, ℕ}
 use native.Mathlib.Omega.{arith}
 use lib.IntN.{pos}
 use lib.ListN.{length}
-use Rattle.layout.specs.Reading.{Refusal, Res, bad, ok}
+use Rattle.layout.specs.Reading.{Refusal, Res, bad, noRoom, ok}
 use Rattle.layout.specs.Answers.{Message, accepted, most, prefixRead, refused, shape, widths}
 use Rattle.layout.proofs.Proper.{proper}
 use Rattle.body_reading.specs.Store.{State, Tab, add, own, store, tab}
@@ -56,7 +56,7 @@ module _ (m : Message) (h : proper m ≡ true) (few : slim m ≡ true) (one : 1 
 
     module _ (row : List ℕ) (q k : ℕ) (first : ok (own row ∷ tab t₁ k ∷ []) q ≡ run t₀) where
       -- 10
-      pub one-needs : length (t₁ ++ l) / w < k / w → (c : Refusal) → c ≡ record { number = 10; place = 0; need = k / w } → (refused c, (t₁ ++ l) ∷ []) ≡ prefixRead m (pos v) (l ∷ []) s
+      pub one-needs : length (t₁ ++ l) / w < k / w → (c : Refusal) → c ≡ noRoom (k / w) → (refused c, (t₁ ++ l) ∷ []) ≡ prefixRead m (pos v) (l ∷ []) s
       unfolding prefixRead
       one-needs i c e =
           (λ j. (refused (e j), sym same j ∷ []))

@@ -11,7 +11,7 @@ use lib.IntN.{pos}
 use lib.ListN.{drop, getD, length, replicate}
 use lib.Seq.{sets, sets-eq}
 use borrow.Author.Tests.{ne-eqb}
-use Rattle.layout.specs.Reading.{Refusal, Res, bad, because, ok}
+use Rattle.layout.specs.Reading.{Refusal, Res, bad, because, noRoom, ok}
 use Rattle.layout.specs.Tables.{Tables, append, from, readRows, rowWidth}
 use Rattle.layout.specs.Answers as Answers
 use Rattle.layout.specs.Answers.{Message, accepted, judged, laid, most, needed, prefixRead, readAnswer, refused, seen, shape, widths}
@@ -101,7 +101,7 @@ module _ (m : Message) (h : proper m ≡ true) (w : Bool) (v : ℕ) (known : v �
 -- room is judged by the rows alone, whatever the own row and the bytes used are
 module _ (m : Message) (olds : Tables) (row : List ℕ) (st : Tables) (q : ℕ) where
   -- the first table too small
-  pub judged-needs : (k : ℕ) → short (widths m) (lengths st) (lengths olds) ≡ some k → judged m olds (ok (row ∷ st) q) ≡ (refused (record { number = 10; place = 0; need = k }), olds)
+  pub judged-needs : (k : ℕ) → short (widths m) (lengths st) (lengths olds) ≡ some k → judged m olds (ok (row ∷ st) q) ≡ (refused (noRoom k), olds)
   judged-needs k e = rw (needed-is (widths m) st olds ∙ e)
 
   -- all has room
@@ -129,7 +129,7 @@ module _ (m : Message) (h : proper m ≡ true) (w : Bool) (v : ℕ) (s : List �
 
     module _ (row : List ℕ) (st : Tables) (q : ℕ) (d : seen w m (pos v) s ≡ ok (row ∷ st) q) where
       -- the first table too small
-      pub reply-needs : (k : ℕ) → short (widths m) (lengths st) (lengths olds) ≡ some k → readAnswer w m (pos v) olds s ≡ (refused (record { number = 10; place = 0; need = k }), olds)
+      pub reply-needs : (k : ℕ) → short (widths m) (lengths st) (lengths olds) ≡ some k → readAnswer w m (pos v) olds s ≡ (refused (noRoom k), olds)
       unfolding readAnswer
       reply-needs k e = ap (judged m olds) d ∙ judged-needs m olds row st q k e
 
@@ -194,7 +194,7 @@ module _ (m : Message) (h : proper m ≡ true) (few : slim m ≡ true) (w : Bool
           left false i = refl
 
       -- 10: the first table too small
-      pub answers-needs : (k : ℕ) → short (widths m) (marks u) (lengths olds) ≡ some k → (refused (record { number = 10; place = 0; need = k }), olds) ≡ readAnswer w m (pos v) olds s
+      pub answers-needs : (k : ℕ) → short (widths m) (marks u) (lengths olds) ≡ some k → (refused (noRoom k), olds) ≡ readAnswer w m (pos v) olds s
       answers-needs k e = sym (reply-needs m h w v s olds many cs (measured .rows) q (has-seen (cs ∷ measured .rows) (measured .is)) k (ap (λ ms. short (widths m) ms (lengths olds)) (sym (measured .marks-are)) ∙ e))
 
       -- all has room: the second run's answer is the first's, whether it is looked at or not

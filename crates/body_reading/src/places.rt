@@ -1,7 +1,7 @@
 // Primitives at a place of a message, as walks over a body read them: each is read on the rest from the place on, and its answer counts from the message's start.
 ghost use mathlib.Core.Bool.{false};
 ghost use mathlib.Core.Path.{_≡_};
-ghost use Rattle.layout.specs.Primitives.{cell, compact, empty, fixed, flag, kept, never, plain, unsigned, w16, w32, w64};
+ghost use Rattle.layout.specs.Primitives.{cell, compact, empty, fixed, flag, kept, never, plain, unsigned, w16, w32, w64, w8};
 ghost use Rattle.layout.specs.Read.{byPlace, readBasic};
 ghost use Rattle.layout.specs.Rows.{blob, text};
 ghost use Rattle.primitives.specs.Answers.{ofFlag, ofNumber};
@@ -49,6 +49,12 @@ fn front(s: &[u8], p: usize, more: usize) -> &[u8]
         return &s[p..p + more + 1];
     }
     &s[..0]
+}
+
+pub fn int8_at(s: &[u8], p: usize) -> Number
+    ensures { λ r. ⌜ ofNumber r ≡ on (cell w8) (now (s .entry)) p ⌝ }
+{
+    moved(numbers::int8(front(s, p, 0)), p)
 }
 
 pub fn int16_at(s: &[u8], p: usize) -> Number
@@ -190,7 +196,7 @@ fn field_moved(n: Nullable, p: usize) -> Nullable
     }
 }
 
-pub(crate) fn nullable_string_at(s: &[u8], p: usize) -> Nullable
+pub fn nullable_string_at(s: &[u8], p: usize) -> Nullable
     ensures { λ r. ⌜ ofNullable r ≡ there (on (readBasic (byPlace false) (text (fixed w16 kept))) (now (s .entry)) p) ⌝ }
 {
     field_moved(texts::nullable_string(parts::rest(s, p)), p)
@@ -209,7 +215,7 @@ fn flag_moved(f: Flag, p: usize) -> Flag
     }
 }
 
-pub(crate) fn boolean_at(s: &[u8], p: usize) -> Flag
+pub fn boolean_at(s: &[u8], p: usize) -> Flag
     ensures { λ r. ⌜ ofFlag r ≡ on flag (now (s .entry)) p ⌝ }
 {
     flag_moved(numbers::boolean(parts::rest(s, p)), p)

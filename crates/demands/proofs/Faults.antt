@@ -8,7 +8,7 @@ use native.Mathlib.Omega.{arith}
 use lib.Dec.{leb, ltb}
 use lib.IntN.{ℤ, negsuc, pos}
 use lib.ListN.{drop, length}
-use Rattle.layout.specs.Reading.{Refusal, Res, bad, because, ok}
+use Rattle.layout.specs.Reading.{Refusal, Res, bad, because, noRoom, ok}
 use Rattle.layout.specs.Primitives.{Maybe, Size, holds, keeps, limit}
 use Rattle.layout.specs.Utf8.{utf8}
 use Rattle.layout.specs.Rows.{Basic, BasicValue, Shape, Value, absent, array, blob, boolean, end, field, lacking, level, natural, number, optional, text}
@@ -17,7 +17,7 @@ use Rattle.layout.specs.Tables.{Tables, good}
 use Rattle.layout.specs.Answers.{Answer, Message, accepted, body, judgedGood, made, meant, most, offered, refused, shape, stored, writeAnswer}
 use Rattle.demands.specs.Refusals.{Answered, Fair}
 
-pub no-room : (size k : ℕ) → Fair size (record { number = 10; place = 0; need = k })
+pub no-room : (size k : ℕ) → Fair size (noRoom k)
 no-room size k = record { least = omega arith; greatest = omega arith; place-in = omega arith; no-need = λ n. absurd (n refl) }
 
 or-most : (k a b : ℕ) → a ≤ k → b ≤ k → or a b ≤ k
@@ -104,7 +104,7 @@ pub stored-answered : (out : List ℕ) (o : Res (List ℕ)) → ((e : Refusal) �
 stored-answered out (bad e) h = (h e refl, refl)
 stored-answered out (ok bs n) h = go (leb n (length out)) (stored out (ok bs n)) refl
   where
-    go : (c : Bool) (x : Answer × List ℕ) → x ≡ cond c (accepted [] n, bs ++ drop n out) (refused (record { number = 10; place = 0; need = n }), out) → Answered 0 out (x .1) (x .0)
+    go : (c : Bool) (x : Answer × List ℕ) → x ≡ cond c (accepted [] n, bs ++ drop n out) (refused (noRoom n), out) → Answered 0 out (x .1) (x .0)
     go true x e = subst (λ (y : Answer × List ℕ). Answered 0 out (y .1) (y .0)) (sym e) tt
     go false x e = subst (λ (y : Answer × List ℕ). Answered 0 out (y .1) (y .0)) (sym e) (no-room 0 n, refl)
 

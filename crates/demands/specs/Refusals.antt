@@ -2,7 +2,7 @@
 use mathlib.Core.Logic.{_⊎_, _≢_}
 use mathlib.Core.Path.{_≡_}
 use Prim.Native.Nat.{_≤_, ℕ}
-use Rattle.layout.specs.Reading.{Refusal}
+use Rattle.layout.specs.Reading.{Refusal, nowhere}
 use Rattle.layout.specs.Answers.{Answer, accepted, refused}
 
 -- a number of the table, a place in the message of `size` bytes, and a need with 10 alone. On writing `size` is 0, and so is the place
@@ -19,4 +19,4 @@ Answered size before after (refused e) = Fair size e × (after ≡ before)
 
 -- the same in the numbers that the C interface hands back: 0 is an acceptance
 abbrev pub InNumbers : {A : Type 0} → ℕ → A → A → ℕ → ℕ → ℕ → Type 0
-InNumbers size before after n p k = (n ≡ 0) ⊎ (Fair size (record { number = n; place = p; need = k }) × (after ≡ before))
+InNumbers size before after n p k = (n ≡ 0) ⊎ (Fair size (record { number = n; place = p; need = k; message = 0; row = nowhere; field = nowhere }) × (after ≡ before))

@@ -8,7 +8,7 @@ use native.Mathlib.Omega.{arith}
 use lib.IntN.{pos, ℤ}
 use lib.ListN.{drop, length, take}
 use lib.Seq.{length-take-le, sets, take-add}
-use Rattle.layout.specs.Reading.{Refusal, Res, bad, because, more, ok}
+use Rattle.layout.specs.Reading.{Refusal, Res, bad, because, more, noRoom, ok}
 use Rattle.layout.specs.Primitives.{cell, w32}
 use Rattle.layout.specs.Rows.{Shape, at, number, standing, stands, tagRows}
 use Rattle.layout.specs.Tables.{Tables, all, append, arrays, cells, from, kindIn, kindOf, readRows, rowWidth, width}
@@ -17,7 +17,7 @@ use Rattle.layout.specs.Answers.{Answer, Message, accepted, judged, most, noRow
 use Rattle.layout.specs.Frames.{Header, frameRead, frameSeen, frameSize, withSize, withBody}
 use Rattle.layout.specs.Messages.Headers as Headers
 use Rattle.layout.specs.Messages.Headers.{requestRows, responseRows}
-use Rattle.primitives.specs.Answers.{noRoom, ofRefusal, versionOf}
+use Rattle.primitives.specs.Answers.{ofRefusal, versionOf}
 use Rattle.primitives.specs.declared.Refusal as Code
 use Rattle.frame.specs.Answers.{ofRequest, ofResponse}
 use Rattle.frame.specs.Walks.{ofRequestWalked, ofResponseWalked}

@@ -12,14 +12,14 @@ use borrow.Rule.Slice.PartMut.{midOf, putMid}
 use Rattle.layout.specs.Answers.{Answer, Message, accepted, atVersion, body, meant, most, refused, shape, stored}
 use Rattle.layout.specs.Frames.{Header, frameMade, frameWritten, framed, numbered}
 use Rattle.layout.specs.Primitives.{bytes, plain}
-use Rattle.layout.specs.Reading.{Refusal, Res, bad, because}
+use Rattle.layout.specs.Reading.{Refusal, Res, bad, because, noRoom}
 use Rattle.layout.specs.Rows.{Shape}
 use Rattle.layout.specs.Tables.{Tables, count, good}
 use Rattle.layout.specs.Write.{fault, write}
 use Rattle.layout.proofs.Back.{length-bytes}
 use Rattle.layout.proofs.Chunks.{nil}
 use Rattle.layout.proofs.Tests.{by-test, le-false, le-true, lt-false, lt-true}
-use Rattle.primitives.specs.Answers.{noRoom, versionOf}
+use Rattle.primitives.specs.Answers.{versionOf}
 use Rattle.primitives.proofs.Versions.{known}
 use Rattle.primitives_put.specs.Put.{Put}
 use Rattle.primitives_put.specs.Step.{Capped, Step, cap}

@@ -11,7 +11,7 @@ use lib.IntN.{negsuc, pos, ℤ}
 use lib.ListN.{drop, getD, length, replicate, take}
 use lib.Seq.{drop-at, take-at}
 use borrow.Author.Tests.{ne-eqb}
-use Rattle.layout.specs.Reading.{Refusal, Res, bad, because, ok}
+use Rattle.layout.specs.Reading.{Refusal, Res, bad, because, noRoom, ok}
 use Rattle.layout.specs.Primitives.{minus}
 use Rattle.layout.specs.Rows.{Shape}
 use Rattle.layout.specs.Write.{fault}
@@ -284,7 +284,7 @@ pub stays-behind : (cs old : List ℕ) (st room : Tables) → drop (length cs) (
 unfolding laid
 stays-behind cs old st room = drop-at cs (drop (length cs) old) (length cs) refl
 
-pub need-of-a-write : (m : Message) (v : ℤ) (lent : List ℕ) (st : Tables) (bs out : List ℕ) (n : ℕ) → made m v lent st ≡ ok bs n → length out < n → writeAnswer m v lent st out ≡ (refused (record { number = 10; place = 0; need = n }), out)
+pub need-of-a-write : (m : Message) (v : ℤ) (lent : List ℕ) (st : Tables) (bs out : List ℕ) (n : ℕ) → made m v lent st ≡ ok bs n → length out < n → writeAnswer m v lent st out ≡ (refused (noRoom n), out)
 unfolding writeAnswer
 need-of-a-write m v lent st bs out n e h = rw (e, le-false n (length out) h)
 

@@ -6,18 +6,19 @@ use mathlib.Core.Path.{_≡_, refl}
 use Prim.Native.Nat.{_%_, _-_, _/_, _^_, suc, zero, ℕ}
 use lib.IntN.{ℤ, negsuc, pos}
 use lib.ListN.{getD, replicate}
-use Rattle.layout.specs.Reading.{Refusal, Res, bad, fail, failAt, give, here, loop, many, ok, pair, pick, raw, single, then}
+use Rattle.layout.specs.Reading.{Refusal, Res, bad, because, fail, failAt, give, here, loop, many, naming, noRoom, ok, pair, pick, raw, single, then}
 use Rattle.layout.specs.Utf8.{begins, characters, first, utf8, wellFormed, wellFormedFrom, within}
 use Rattle.layout.specs.Primitives.{bytes, cell, checked, compact, fixed, flag, flagBytes, groups, holds, int, integer, integerBytes, kept, lengthBytes, lengthOf, minus, never, nullBytes, shortest, signed, sized, sizedBytes, unsigned, unsignedBytes, unzigzag, varint, varlong, w16, zigzag, zigzagBytes}
 use Rattle.layout.specs.Rows.{Basic, at, blob, end, field, standing, stands, tagRows, text}
 use Rattle.layout.specs.Read.{readBasic, readBlob, readText}
 use Rattle.layout.specs.Write.{basicFault, each, fault, firstOf, or, sizedFault, tooLong, unless, write, writeBasic}
 use Rattle.layout.specs.Tables.{Tables, absentCells, addsUp, all, append, arrays, asked, basicOf, cells, chosen, chunks, count, countCell, firstRow, from, good, goodCells, goodCount, goodRow, goodSpan, inside, itemsOf, kindIn, kindOf, pop, readRows, rowWidth, rowsAt, rowsOf, slice, span, spanOf, sum, times, valueOf, width}
-use Rattle.layout.specs.Answers.{Answer, accepted, body, laid, made, meant, needed, prefixRead, readAnswer, refused, seen, shape, tagsAlone, wholeRead, widths, writeAnswer}
+use Rattle.layout.specs.Names.{blame, blameEach, blameItems, fieldless, nameAt, nameFault, seek, stop}
+use Rattle.layout.specs.Answers.{Answer, accepted, body, laid, made, meant, named, namedFault, needed, prefixRead, readAnswer, refused, seen, shape, tagsAlone, wholeRead, widths, writeAnswer}
 use Rattle.layout.specs.Agreement as Agreement
 use Rattle.layout.specs.Lookup as Lookup
 use Rattle.layout.specs.Messages.ApiVersions as Api
-use Rattle.layout.specs.Frames.{frameMade, frameRead, frameSeen, frameSize, frameWritten}
+use Rattle.layout.specs.Frames.{frameMade, frameNamed, frameRead, frameSeen, frameSize, frameWritten}
 use Rattle.layout.specs.Messages.Fetch as Fetch
 use Rattle.layout.specs.Messages.Headers as Headers
 use Rattle.layout.specs.Messages.Metadata as Metadata
@@ -60,7 +61,11 @@ abbrev writes : Answer × List ℕ → Outcome
 writes x = answer (x .0) (x .1 ∷ [])
 
 abbrev no : ℕ → ℕ → ℕ → Tables → Outcome
-no e p k st = left (record { number = e; place = p; need = k }) st
+no e p k st = left (record { number = e; place = p; need = k; message = 0; row = minus; field = minus }) st
+
+-- a refusal that was given a name: of a message, at a row and a field
+abbrev name : Refusal → Outcome
+name e = left e []
 
 abbrev Case : Type 0
 Case = Outcome × Outcome
@@ -173,7 +178,7 @@ others =
     (host (Lookup.lookup 1 (pos 0) brokers), host (Lookup.found 10 0)) ∷
     (host (Lookup.lookup 2 (pos 0) brokers), host (Lookup.found 20 1)) ∷
     (host (Lookup.lookup 3 (pos 0) brokers), host Lookup.unknown) ∷
-    (host (Lookup.lookup 1 (pos 1) brokers), host (Lookup.refused (record { number = 3; place = 20; need = 0 }))) ∷
+    (host (Lookup.lookup 1 (pos 1) brokers), host (Lookup.refused (because 3 20))) ∷
     -- ApiVersions request: nothing at 2; unset texts and tags are written as empty at 3; a tag
     (writes (writeAnswer Api.request (pos 2) [] ((0 ∷ 0 ∷ 0 ∷ 0 ∷ 0 ∷ 0 ∷ minus ∷ []) ∷ [] ∷ []) []), told [] 0 ([] ∷ [])) ∷
     (writes (writeAnswer Api.request (pos 3) [] ((0 ∷ 0 ∷ 0 ∷ 0 ∷ 0 ∷ 0 ∷ minus ∷ []) ∷ [] ∷ []) (replicate 3 7)), told [] 3 (hex 3 0x010100 ∷ [])) ∷
@@ -216,10 +221,30 @@ others =
     (rows (Agreement.agreement []), rows ((18 ∷ minus ∷ minus ∷ []) ∷ (3 ∷ minus ∷ minus ∷ []) ∷ (1 ∷ minus ∷ minus ∷ []) ∷ [])) ∷
     []
 
+-- the names of refusals
+abbrev pub names : List Case
+names =
+    -- E9 read at 1 and at 3: the throttle time, the number of items. E10 at 0: bytes left over. E11 at 0: a field of the second item
+    (name (named Api.response (pos 1) e9 (because 3 12)), name (naming 2 minus 2 (because 3 12))) ∷
+    (name (named Api.response (pos 3) e9 (because 8 2)), name (naming 2 minus 1 (because 8 2))) ∷
+    (name (named Api.response (pos 0) (e9 ++ replicate 4 0) (because 9 12)), name (naming 2 minus minus (because 9 12))) ∷
+    (name (named Api.response (pos 0) e11 (because 3 14)), name (naming 2 1 1 (because 3 14))) ∷
+    -- the data of an item's tag, cut; a version that there is not
+    (name (named Api.response (pos 3) (hex 13 0x0000_02_0012_0000_0003_01_05_0900) (because 3 11)), name (naming 2 0 1 (because 3 11))) ∷
+    (name (named Api.response (negsuc 0) [] (because 1 0)), name (naming 2 minus minus (because 1 0))) ∷
+    -- written: the second name of a Metadata request, an isolation level of 2, and no room
+    (name (namedFault Metadata.request (pos 2) (hex 2 0x61FF) ((2 ∷ 0 ∷ 0 ∷ []) ∷ (0 ∷ 1 ∷ 1 ∷ 1 ∷ []) ∷ []) (because 7 0)), name (naming 3 1 0 (because 7 0))) ∷
+    (name (namedFault Fetch.request (pos 4) [] ((minus ∷ 500 ∷ 1 ∷ 0 ∷ 0 ∷ 2 ∷ 2 ∷ 0 ∷ []) ∷ [] ∷ [] ∷ []) (because 11 0)), name (naming 5 minus 4 (because 11 0))) ∷
+    (name (namedFault Fetch.request (pos 3) [] ((minus ∷ 500 ∷ 1 ∷ 0 ∷ 0 ∷ 2 ∷ 2 ∷ 0 ∷ []) ∷ [] ∷ [] ∷ []) (noRoom 20)), name (naming 5 minus minus (noRoom 20))) ∷
+    -- frames: a size that is cut, and a header that is
+    (name (frameNamed Headers.response (pos 0) (hex 2 0x0000) (because 3 0)), name (naming 8 minus minus (because 3 0))) ∷
+    (name (frameNamed Headers.response (pos 0) (hex 8 0x00000003_00000007) (because 3 4)), name (naming 8 minus 0 (because 3 4))) ∷
+    []
+
 abbrev Holds : List Case → Type 0
 Holds cs = map (λ (c : Case). c .0) cs ≡ map (λ (c : Case). c .1) cs
 
-pub examples : Holds table × Holds others
+pub examples : Holds table × Holds others × Holds names
 unfolding then give fail failAt pick here single raw pair many loop
     within characters begins first wellFormedFrom wellFormed utf8
     int bytes signed integer integerBytes cell holds flag flagBytes groups unsigned shortest unsignedBytes zigzag unzigzag varlong varint zigzagBytes lengthOf lengthBytes nullBytes checked sized sizedBytes
@@ -228,8 +253,9 @@ unfolding then give fail failAt pick here single raw pair many loop
     span cells width absentCells countCell readRows append pop count times itemsOf chosen slice spanOf basicOf valueOf rowWidth arrays kindIn kindOf chunks rowsOf firstRow rowsAt from all sum goodCount asked inside goodSpan goodCells goodRow addsUp good
     shape seen widths needed laid readAnswer prefixRead wholeRead meant body made writeAnswer
     Agreement.negative Agreement.smaller Agreement.reaches Agreement.highest Agreement.agreed Agreement.agreement Lookup.lookup
+    fieldless stop seek nameAt blameEach blameItems blame nameFault named namedFault frameNamed
     frameSize frameSeen frameRead frameMade frameWritten Headers.requestRows Headers.responseRows
     Api.requestRows Api.keyRows Api.responseRows
     Metadata.nameRows Metadata.requestRows Metadata.brokerRows Metadata.nodeRows Metadata.partitionRows Metadata.topicRows Metadata.responseRows
     Fetch.askRows Fetch.askTopicRows Fetch.requestRows Fetch.abortedRows Fetch.partitionRows Fetch.topicRows Fetch.responseRows
-examples = (refl, refl)
+examples = (refl, refl, refl)

@@ -64,7 +64,7 @@ abbrev pub Outside : ℤ → Type 0
 Outside (pos n) = most < n
 Outside (negsuc n) = Unit {0}
 
-number-is : (s : List ℕ) → 4 ≤ length s → cell w32 0 s ≡ ok (cellOf (signed w32 (be 0 (take 4 s)))) 4
+pub number-is : (s : List ℕ) → 4 ≤ length s → cell w32 0 s ≡ ok (cellOf (signed w32 (be 0 (take 4 s)))) 4
 unfolding cell give
 number-is s h = then-ok (int 4) _ 0 s (be 0 (take 4 s)) 4 (int-ok 4 0 s h)
 

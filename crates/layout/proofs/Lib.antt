@@ -13,6 +13,10 @@ pub mod Text
 pub mod Local
 pub mod Refusals
 pub mod BadLetter
+-- a value that is refused is named by its first field with a fault
+pub mod Blamed
+-- a refusal's name is the field that refused
+pub mod Found
 -- what is written reads back, zigzag too
 pub mod Back
 -- with shortest varints, what is read is written the same; and what was read has no 7 or 11
@@ -43,6 +47,8 @@ pub mod Demand3
 -- frames: what is after one has no part; what was written comes back
 pub mod Frames
 pub mod Headers
+-- names of refusals, in bodies and in frames
+pub mod Named
 -- version agreement and address lookup
 pub mod FirstRow
 pub mod Agreed

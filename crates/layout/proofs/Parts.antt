@@ -60,8 +60,8 @@ unsigned-small p s x n h =
 
 -- ---- items that take a byte are no more than the message's bytes
 
-record Hungry {A : Type 0} (r : Reader A) : Type 0 where
-  law : (p : ℕ) (s : List ℕ) (x : A) (n : ℕ) → r p s ≡ ok x n → 1 ≤ n
+pub record Hungry {A : Type 0} (r : Reader A) : Type 0 where
+  pub law : (p : ℕ) (s : List ℕ) (x : A) (n : ℕ) → r p s ≡ ok x n → 1 ≤ n
 
 hungry-then : {A B : Type 0} (r : Reader A) (f : A → Reader B) → Hungry r → Hungry (then r f)
 hungry-then r f h = record { law = λ p s y m e. let d = split r f p s y m e in let k = h .law p s (d .x) (d .n) (d .first) in omega (arith, d .sum) }
@@ -87,10 +87,14 @@ hungry-length (fixed w m) = hungry-then _ _ (hungry-int (size w) (size-some w))
 hungry-length (compact m) = hungry-unsigned
 hungry-length plain = hungry-then _ _ hungry-unsigned
 
+pub hungry-checked : (a : Bool) (e : ℕ) (z : Size) → Hungry (checked a e (lengthOf unsigned z))
+unfolding checked
+hungry-checked a e z = hungry-single _ _ (hungry-then _ _ (hungry-length z))
+
 hungry-sized : {A : Type 0} (b a : Bool) (e : ℕ) (z : Size) (r : ℕ → Reader A) → Hungry (sized b a e (lengthOf unsigned z) r)
-unfolding sized checked
-hungry-sized true a e z r = hungry-then _ _ (hungry-single _ _ (hungry-then _ _ (hungry-length z)))
-hungry-sized false a e z r = hungry-then _ _ (hungry-single _ _ (hungry-then _ _ (hungry-length z)))
+unfolding sized
+hungry-sized true a e z r = hungry-then _ _ (hungry-checked true e z)
+hungry-sized false a e z r = hungry-then _ _ (hungry-checked a e z)
 
 -- a field or an array stands in l
 abbrev pub Eats : Shape → Type 0
@@ -101,7 +105,7 @@ Eats (array z t i r) = Unit {0}
 Eats (lacking z t i r) = Eats r
 
 module _ (q : Bool) where
-  hungry-basic : (k : Basic) → Hungry (readBasic (byPlace q) k)
+  pub hungry-basic : (k : Basic) → Hungry (readBasic (byPlace q) k)
   unfolding readBasic flag cell
   hungry-basic (number w) = hungry-then _ _ (hungry-int (size w) (size-some w))
   hungry-basic boolean = hungry-then _ _ (hungry-int 1 (omega arith))

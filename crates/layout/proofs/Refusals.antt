@@ -9,13 +9,13 @@ use lib.IntN.{negsuc, pos, ℤ}
 use lib.ListN.{drop, length, length-drop, replicate}
 use lib.Seq.{length-take-le}
 use Rattle.layout.specs.Reading.{Reader, Refusal, Res, bad, because, fail, failAt, give, here, more, ok, pick, raw, single, then}
-use Rattle.layout.specs.Primitives.{flag, unsigned}
+use Rattle.layout.specs.Primitives.{Size, checked, flag, lengthOf, refusal, unsigned}
 use Rattle.layout.specs.Utf8.{wellFormed}
 use Rattle.layout.specs.Rows.{Basic, Shape}
 use Rattle.layout.specs.Read.{byPlace, read, readBasic}
 use Rattle.layout.specs.Tables.{Tables, append, readRows}
 use Rattle.layout.specs.Answers.{Message, ended, most, seen, shape}
-use Rattle.layout.proofs.Kept.{Kept, kept-basic, kept-flag, kept-read, kept-unsigned}
+use Rattle.layout.proofs.Kept.{Kept, kept-basic, kept-checked, kept-flag, kept-length, kept-read, kept-unsigned}
 use Rattle.layout.proofs.Link.{link}
 use Rattle.layout.proofs.Local.{Local, locals, not-ok}
 use Rattle.layout.proofs.Tests.{by-test, of-lt}
@@ -101,6 +101,9 @@ telling = record {
 
 pub tells-basic : (w : Bool) (k : Basic) → Tells (readBasic (byPlace w) k)
 tells-basic w k = kept-basic telling _ w _ unsigned _ flag (kept-unsigned telling) (kept-flag telling) k .1
+
+pub tells-checked : (a : Bool) (z : Size) → Tells (checked a (refusal z) (lengthOf unsigned z))
+tells-checked a z = kept-checked telling a z (lengthOf unsigned z) (lengthOf unsigned z) (kept-length telling unsigned unsigned (kept-unsigned telling) z) .1
 
 tells-read : (w : Bool) (l : Shape) → Tells (read (byPlace w) l)
 tells-read w l = kept-read telling _ w _ unsigned _ flag (kept-unsigned telling) (kept-flag telling) l .1

@@ -7,17 +7,20 @@ use Prim.Native.Nat.{ℕ, zero, suc, _/_}
 use lib.ListN.{length, drop, getD, replicate}
 use lib.Dec.{leb, ltb, eqb}
 use lib.IntN.{ℤ, pos, negsuc}
-use Rattle.layout.specs.Reading.{Refusal, because, Res, ok, bad, Reader}
+use Rattle.layout.specs.Reading.{Refusal, because, noRoom, naming, nowhere, Res, ok, bad, Reader}
 use Rattle.layout.specs.Rows.{Shape, Layout, done, tagged, at, Value}
 use Rattle.layout.specs.Write.{write, fault}
+use Rattle.layout.specs.Names.{nameAt, nameFault}
 use Rattle.layout.specs.Tables.{Tables, readRows, append, valueOf, rowWidth, kindOf, from, good}
 
--- a message of versions 0 to `last`, with compact forms from `flexible` on; `tables` is the number of tables lent beside the body's own row
+-- a message of versions 0 to `last`, with compact forms from `flexible` on; `tables` is the number of tables lent beside the body's own row,
+-- and `number` that by which refusals name the message, 0 for none
 pub record Message : Type 0 where
   pub layout : Layout
   pub last : ℕ
   pub flexible : ℕ
   pub tables : ℕ
+  pub number : ℕ
 
 unfoldable pub shape : Message → ℕ → Shape
 shape m v = at (m .flexible) v (m .layout)
@@ -76,7 +79,7 @@ laid (cs ∷ st) (old ∷ room) = (cs ++ drop (length cs) old) ∷ laid st room
 -- 10
 abbrev pub roomy : Tables → Tables → ℕ → Option ℕ → Answer × Tables
 roomy st room n none = (accepted (getD st 0 []) n, laid (drop 1 st) room)
-roomy st room n (some k) = (refused (record { number = 10; place = 0; need = k }), room)
+roomy st room n (some k) = (refused (noRoom k), room)
 
 abbrev pub judged : Message → Tables → Res Tables → Answer × Tables
 judged m room (bad e) = (refused e, room)
@@ -85,6 +88,15 @@ judged m room (ok st n) = roomy st room n (needed (widths m) (drop 1 st) room)
 -- the answer at version v to the message s, and the tables behind it
 unfoldable pub readAnswer : Bool → Message → ℤ → Tables → List ℕ → Answer × Tables
 readAnswer w m v room s = judged m room (seen w m v s)
+
+-- no rows yet of any table
+abbrev pub noneYet : Message → List ℕ
+noneYet m = replicate (suc (m .tables)) 0
+
+-- the refusal e of the message s at version v, with its name
+unfoldable pub named : Message → ℤ → List ℕ → Refusal → Refusal
+named m (pos v) s e = nameAt (m .number) (shape m v) (noneYet m) 0 s e
+named m (negsuc v) s e = naming (m .number) nowhere nowhere e
 
 unfoldable pub prefixRead : Message → ℤ → Tables → List ℕ → Answer × Tables
 prefixRead m v room s = readAnswer false m v room s
@@ -106,6 +118,11 @@ abbrev pub offered : ℕ → List ℕ → Res (List ℕ)
 offered zero bs = limited (length bs) (ok bs (length bs))
 offered (suc e) bs = bad (because (suc e) 0)
 
+-- the refusal e of the row and tables st at version v, with its name
+unfoldable pub namedFault : Message → ℤ → List ℕ → Tables → Refusal → Refusal
+namedFault m (pos v) lent st e = nameFault (m .number) (shape m v) (noneYet m) (meant lent st (shape m v)) e
+namedFault m (negsuc v) lent st e = naming (m .number) nowhere nowhere e
+
 -- 13, the same at all versions
 abbrev pub judgedGood : {A : Type 0} → Message → List ℕ → Tables → Res A → Res A
 judgedGood m lent st r = cond (good (length lent) (m .tables) (shape m 0) st) r (bad (because 13 0))
@@ -117,7 +134,7 @@ made m v lent st = atVersion m v (λ l. judgedGood m lent st (offered (fault l (
 -- 10
 abbrev pub stored : List ℕ → Res (List ℕ) → Answer × List ℕ
 stored out (bad e) = (refused e, out)
-stored out (ok bs n) = cond (leb n (length out)) (accepted [] n, bs ++ drop n out) (refused (record { number = 10; place = 0; need = n }), out)
+stored out (ok bs n) = cond (leb n (length out)) (accepted [] n, bs ++ drop n out) (refused (noRoom n), out)
 
 -- the answer at version v, with no row to show, and the output behind it
 unfoldable pub writeAnswer : Message → ℤ → List ℕ → Tables → List ℕ → Answer × List ℕ
@@ -135,4 +152,4 @@ writeAlone e bs out = stored out (offered e bs)
 
 -- tagged fields: own row, the number of tags; table 1, tags (tag, start, length)
 abbrev pub tagsAlone : Message
-tagsAlone = record { layout = tagged 0 0 1 done; last = 0; flexible = 0; tables = 1 }
+tagsAlone = record { layout = tagged 0 0 1 done; last = 0; flexible = 0; tables = 1; number = 0 }

@@ -6,12 +6,13 @@ use Prim.Native.Nat.{ℕ, zero, suc, _+_, _-_}
 use lib.ListN.{length, take, drop}
 use lib.Dec.{leb, ltb}
 use lib.IntN.{ℤ, pos, negsuc}
-use Rattle.layout.specs.Reading.{because, Res, ok, bad}
+use Rattle.layout.specs.Reading.{Refusal, because, naming, nowhere, Res, ok, bad}
 use Rattle.layout.specs.Primitives.{w32, bytes, cell}
 use Rattle.layout.specs.Rows.{row, int32}
 use Rattle.layout.specs.Write.{fault}
+use Rattle.layout.specs.Names.{nameAt}
 use Rattle.layout.specs.Tables.{Tables, append, readRows}
-use Rattle.layout.specs.Answers.{Message, Answer, most, atVersion, judged, judgedGood, limited, meant, noRows, body, stored}
+use Rattle.layout.specs.Answers.{Message, Answer, shape, most, atVersion, judged, judgedGood, limited, meant, noRows, noneYet, body, stored}
 
 -- a header: its rows, with its numbers as their versions, and the lowest number that is taken
 pub record Header : Type 0 where
@@ -35,7 +36,7 @@ frameSize s = sizeOf (length s) (cell w32 0 s)
 
 -- the header with the size before it
 abbrev pub withSize : Message → Message
-withSize m = record { layout = row 0 (m .last) int32 (m .layout); last = m .last; flexible = m .flexible; tables = m .tables }
+withSize m = record { layout = row 0 (m .last) int32 (m .layout); last = m .last; flexible = m .flexible; tables = m .tables; number = m .number }
 
 -- the header's row without the size; and the body's start and length, which is what is left of the frame's z bytes after the k of size and header
 abbrev pub withBody : ℕ → Res Tables → Res Tables
@@ -51,6 +52,16 @@ inFrame s f (ok n z) = withBody z (f (take z s))
 unfoldable pub frameSeen : Header → ℤ → List ℕ → Res Tables
 frameSeen h v s =
     numbered (h .first) v (atVersion (withSize (h .rows)) v (λ l. inFrame s (readRows false append l 0 (noRows (h .rows)) 0) (frameSize s)))
+
+-- the frame's bytes; none where its size is refused
+abbrev pub frameBytes : List ℕ → Res ℕ → List ℕ
+frameBytes s (bad e) = []
+frameBytes s (ok n z) = take z s
+
+-- the refusal e of the bytes s, with its name: the header's fields begin after the four bytes of the size
+unfoldable pub frameNamed : Header → ℤ → List ℕ → Refusal → Refusal
+frameNamed h (pos v) s e = nameAt (h .rows .number) (shape (h .rows) v) (noneYet (h .rows)) 4 (drop 4 (frameBytes s (frameSize s))) e
+frameNamed h (negsuc v) s e = naming (h .rows .number) nowhere nowhere e
 
 -- the answer with header number v to the bytes s, and the table of tags after it
 unfoldable pub frameRead : Header → ℤ → Tables → List ℕ → Answer × Tables

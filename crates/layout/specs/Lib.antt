@@ -11,6 +11,8 @@ pub mod Read
 pub mod Write
 -- values as rows of cells in lent tables, and which tables can be written
 pub mod Tables
+-- the row and the field of a refusal
+pub mod Names
 -- the whole reply of every call
 pub mod Answers
 -- frames: size, header and body

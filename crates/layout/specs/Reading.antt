@@ -2,18 +2,35 @@
 -- the rest that the reader before it left. It gives a value and the number of bytes used, or it refuses. Assumes nothing.
 use mathlib.Core.Bool.{Bool, true, false, cond, _&&_}
 use mathlib.Core.List.{List, [], _∷_}
-use Prim.Native.Nat.{ℕ, zero, suc, _+_}
+use Prim.Native.Nat.{ℕ, zero, suc, _+_, _-_, _^_}
 use lib.ListN.{length, take, drop}
 use lib.Dec.{leb, eqb}
 
--- a number of docs/RULES.md, a place in the message, and for 10 the rows or bytes needed
+-- A number of docs/RULES.md, a place in the message, and for 10 the rows or bytes needed. Then its name: the message, 0 for none; the row in its table
+-- and the field in that row, both from 0 and as cells, −1 for none.
 pub record Refusal : Type 0 where
   pub number : ℕ
   pub place : ℕ
   pub need : ℕ
+  pub message : ℕ
+  pub row : ℕ
+  pub field : ℕ
 
+-- no row, no field
+abbrev pub nowhere : ℕ
+nowhere = 2 ^ 64 - 1
+
+-- readers and writers say number, place and need; a call on a body adds the name
 abbrev pub because : ℕ → ℕ → Refusal
-because e p = record { number = e; place = p; need = 0 }
+because e p = record { number = e; place = p; need = 0; message = 0; row = nowhere; field = nowhere }
+
+-- 10: n rows or bytes are needed
+abbrev pub noRoom : ℕ → Refusal
+noRoom n = record { number = 10; place = 0; need = n; message = 0; row = nowhere; field = nowhere }
+
+-- the refusal e of message m, at a row and a field
+abbrev pub naming : ℕ → ℕ → ℕ → Refusal → Refusal
+naming m r f e = record { number = e .number; place = e .place; need = e .need; message = m; row = r; field = f }
 
 pub data Res (A : Type 0) : Type 0 where
   ok : A → ℕ → Res A

@@ -5,14 +5,14 @@ use mathlib.Core.Path.{_∙_, _≡_, ap, refl, sym}
 use Prim.Native.Nat.{_/_, _<_, _≤_, ℕ}
 use lib.IntN.{pos, ℤ}
 use lib.ListN.{length}
-use Rattle.layout.specs.Reading.{Refusal, Res, ok}
+use Rattle.layout.specs.Reading.{Refusal, Res, noRoom, ok}
 use Rattle.layout.specs.Rows.{Shape, at, standing, stands}
 use Rattle.layout.specs.Tables.{Tables, all, arrays, from, kindIn, kindOf, rowWidth, width}
 use Rattle.layout.specs.Answers.{accepted, prefixRead, refused, seen, shape, widths}
 use Rattle.layout.specs.Messages.Metadata as Meta
 use Rattle.layout.proofs.Local.{not-ok}
 use Rattle.layout.proofs.Proper.{metadata-response}
-use Rattle.primitives.specs.Answers.{noRoom, ofRefusal, versionOf}
+use Rattle.primitives.specs.Answers.{ofRefusal, versionOf}
 use Rattle.primitives.specs.declared.Refusal as Code
 use Rattle.body_reading.specs.Meter.{lengths, metered, short}
 use Rattle.body_reading.specs.Store.{State, own, tab}

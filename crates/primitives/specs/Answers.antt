@@ -6,7 +6,7 @@ use lib.ListN.{length}
 use mathlib.Core.Bool.{Bool, cond, false, true}
 use mathlib.Core.List.{List}
 use Rattle.layout.specs.Answers.{limited}
-use Rattle.layout.specs.Reading.{Res, bad, because, ok}
+use Rattle.layout.specs.Reading.{Res, bad, because, nowhere, ok}
 use Rattle.layout.specs.Reading as Reading
 use Rattle.layout.specs.Primitives.{signed, unzigzag, w64}
 use Rattle.primitives.specs.declared.Flag.{Flag}
@@ -14,12 +14,9 @@ use Rattle.primitives.specs.declared.Integer.{Integer}
 use Rattle.primitives.specs.declared.Number.{Number}
 use Rattle.primitives.specs.declared.Refusal.{Refusal}
 
+-- a refusal without a name: of a primitive, or inside a walk over a body
 abbrev pub ofRefusal : Refusal → Reading.Refusal
-ofRefusal e = record { number = e .number; place = e .place; need = e .need }
-
--- for want of room: n rows or bytes are needed
-abbrev pub noRoom : ℕ → Reading.Refusal
-noRoom n = record { number = 10; place = 0; need = n }
+ofRefusal e = record { number = e .number; place = e .place; need = e .need; message = 0; row = nowhere; field = nowhere }
 
 abbrev pub ofNumber : Number → Res ℕ
 ofNumber (Number.Took v n) = ok v n

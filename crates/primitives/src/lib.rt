@@ -1,8 +1,8 @@
 // A primitive read at the front of what is left of a message; and what all calls share: refusals, versions, and the size that is taken.
 // `numbers`, `lengths`, `parts` and `texts` read, `shown` hands out a part of a message. Each primitive by itself, with the message's size checked first, is in `primitives_calls`.
 ghost use mathlib.Core.Path.{_≡_};
-ghost use Rattle.layout.specs.Reading.{because};
-ghost use Rattle.primitives.specs.Answers.{isSet, noRoom, ofRefusal, versionOf};
+ghost use Rattle.layout.specs.Reading.{because, noRoom};
+ghost use Rattle.primitives.specs.Answers.{isSet, ofRefusal, versionOf};
 
 pub mod lengths;
 pub mod numbers;

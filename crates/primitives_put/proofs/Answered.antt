@@ -7,9 +7,8 @@ use Prim.Native.Nat.{_<_, _≤_, suc, zero, ℕ}
 use lib.Dec.{leb}
 use lib.ListN.{drop, length}
 use Rattle.layout.specs.Answers.{Answer, accepted, refused, writeAlone}
-use Rattle.layout.specs.Reading.{Refusal, because}
+use Rattle.layout.specs.Reading.{Refusal, because, noRoom}
 use Rattle.layout.specs.Write.{unless}
-use Rattle.primitives.specs.Answers.{noRoom}
 use Rattle.primitives_put.specs.Put.{Put}
 use Rattle.primitives_put.specs.Answers.{ofWritten, replied, told}
 use Rattle.primitives_put.specs.declared.Written.{Written}

@@ -5,12 +5,11 @@ use Prim.Native.Nat.{_<_, _≤_, ℕ}
 use native.Mathlib.Omega.{arith}
 use lib.ListN.{drop, length}
 use Rattle.layout.specs.Answers.{Answer, accepted, most, refused, writeAlone}
-use Rattle.layout.specs.Reading.{Refusal, because}
+use Rattle.layout.specs.Reading.{Refusal, because, noRoom}
 use Rattle.layout.proofs.Tests.{le-false, le-true}
 use Rattle.primitives_put.specs.Step.{Capped}
 use Rattle.layout.proofs.Chunks.{nil}
 use Rattle.primitives_put.proofs.Capped.{capped-count, capped-over}
-use Rattle.primitives.specs.Answers.{noRoom}
 
 -- n counts the bytes, and e is what the walk left of no room
 module _ {bs e : List ℕ} {n : ℕ} (s : Capped bs [] n e) (out : List ℕ) where

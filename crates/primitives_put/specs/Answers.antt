@@ -6,10 +6,11 @@ use mathlib.Core.Bool.{Bool, cond, false, true}
 use mathlib.Core.List.{List, [], _++_}
 use mathlib.Core.Option.{Option, none, some}
 use mathlib.Core.Path.{_≡_}
+use Rattle.layout.specs.Reading.{noRoom}
 use Rattle.layout.specs.Answers.{Answer, accepted, refused}
 use Rattle.layout.specs.Primitives.{Size, compact, fixed, lengthBytes, limit, never, nullBytes, w16, w32}
 use Rattle.layout.specs.Write.{or, tooLong, unless}
-use Rattle.primitives.specs.Answers.{noRoom, ofRefusal}
+use Rattle.primitives.specs.Answers.{ofRefusal}
 use Rattle.primitives_put.specs.declared.Written.{Written}
 
 -- writers have no row to show

@@ -6,7 +6,7 @@ use Prim.Native.Nat.{_+_, _-_, _/_, _<_, _≤_, ℕ}
 use native.Mathlib.Omega.{arith}
 use lib.ListN.{getD, length}
 use lib.IntN.{pos}
-use Rattle.layout.specs.Reading.{Reader, Refusal, Res, bad, because, loop, ok, pair}
+use Rattle.layout.specs.Reading.{Reader, Refusal, Res, bad, because, loop, noRoom, ok, pair}
 use Rattle.layout.specs.Primitives.{minus, plain, unsigned}
 use Rattle.layout.specs.Rows.{Shape, Value, at, blob, end, standing, stands, tagRows}
 use Rattle.layout.specs.Read.{byPlace, read, readBasic, readBlob}
@@ -14,7 +14,7 @@ use Rattle.layout.specs.Tables.{Span, all, arrays, cells, countCell, from, kind
 use Rattle.body_reading.specs.Store.{State, Tab, add, own, put, store, tab}
 use Rattle.body_reading.specs.Tagged.{tagShape, tagsIf, tagsShape}
 use Rattle.body_reading.specs.Walk.{Place, Places, Runs, on, walk}
-use Rattle.primitives.specs.Answers.{noRoom, ofRefusal}
+use Rattle.primitives.specs.Answers.{ofRefusal}
 use Rattle.primitives.specs.declared.Refusal as Code
 use Rattle.layout.specs.Answers.{accepted, prefixRead, refused, shape, tagsAlone, widths}
 use Rattle.tagged_fields.specs.Read.{inTable, inTableIs, inTables, inTablesIs, ofTag}

@@ -28,7 +28,7 @@ responseRows =
     tagged 3 3 2 done)))  -- _tagged_fields
 
 abbrev pub request : Message
-request = record { layout = requestRows; last = 3; flexible = 3; tables = 1 }
+request = record { layout = requestRows; last = 3; flexible = 3; tables = 1; number = 1 }
 
 abbrev pub response : Message
-response = record { layout = responseRows; last = 3; flexible = 3; tables = 2 }
+response = record { layout = responseRows; last = 3; flexible = 3; tables = 2; number = 2 }

@@ -56,7 +56,7 @@ responseRows =
     rows 0 4 items 1 topicRows done)  -- responses
 
 abbrev pub request : Message
-request = record { layout = requestRows; last = 4; flexible = 12; tables = 2 }
+request = record { layout = requestRows; last = 4; flexible = 12; tables = 2; number = 5 }
 
 abbrev pub response : Message
-response = record { layout = responseRows; last = 4; flexible = 12; tables = 3 }
+response = record { layout = responseRows; last = 4; flexible = 12; tables = 3; number = 6 }

@@ -26,10 +26,10 @@ responseRows =
 
 -- request header 0 has no client name, and is not taken
 abbrev pub request : Header
-request = record { rows = record { layout = requestRows; last = 2; flexible = 3; tables = 1 }; first = 1 }
+request = record { rows = record { layout = requestRows; last = 2; flexible = 3; tables = 1; number = 7 }; first = 1 }
 
 abbrev pub response : Header
-response = record { rows = record { layout = responseRows; last = 1; flexible = 3; tables = 1 }; first = 0 }
+response = record { rows = record { layout = responseRows; last = 1; flexible = 3; tables = 1; number = 8 }; first = 0 }
 
 -- ---- which header a message has: API key, version
 

@@ -55,7 +55,7 @@ responseRows =
     rows 0 4 items 2 topicRows done))))  -- topics
 
 abbrev pub request : Message
-request = record { layout = requestRows; last = 4; flexible = 9; tables = 1 }
+request = record { layout = requestRows; last = 4; flexible = 9; tables = 1; number = 3 }
 
 abbrev pub response : Message
-response = record { layout = responseRows; last = 4; flexible = 9; tables = 5 }
+response = record { layout = responseRows; last = 4; flexible = 9; tables = 5; number = 4 }
