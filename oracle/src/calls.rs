@@ -2,7 +2,7 @@
 use crate::line::Refusal;
 use crate::model::primitives::{Form, Null, Primitive};
 use crate::model::write::{Given, Own};
-use crate::model::{api_versions, fetch, frames, metadata, primitives, write, Shown};
+use crate::model::{api_versions, fetch, frames, metadata, names, primitives, write, Shown};
 use crate::rust;
 use crate::token::Token;
 
@@ -41,6 +41,8 @@ pub static PRIMITIVES: [Named; 18] = [
 /// A read that fills lent tables.
 pub struct ReadBody {
     pub name: &'static str,
+    /// What its refusals call it.
+    pub message: u8,
     /// The last version, where the call is given one.
     pub last: Option<i16>,
     /// Row widths of the tables, by rank.
@@ -56,6 +58,7 @@ pub struct ReadBody {
 pub const fn response(name: &'static str, whole: bool) -> ReadBody {
     ReadBody {
         name,
+        message: names::API_VERSIONS_RESPONSE,
         last: Some(api_versions::LAST),
         widths: &[4, 3],
         whole,
@@ -67,6 +70,7 @@ pub const fn response(name: &'static str, whole: bool) -> ReadBody {
 
 pub static TAGGED_FIELDS: ReadBody = ReadBody {
     name: "tagged_fields",
+    message: names::ALONE,
     last: None,
     widths: &[3],
     whole: false,
@@ -80,6 +84,7 @@ pub static RESPONSE_READS: [ReadBody; 3] =
 
 pub static REQUEST_READ: ReadBody = ReadBody {
     name: "request_read",
+    message: names::API_VERSIONS_REQUEST,
     last: Some(api_versions::LAST),
     widths: &[3],
     whole: false,
@@ -91,6 +96,7 @@ pub static REQUEST_READ: ReadBody = ReadBody {
 /// The Metadata response.
 pub static METADATA_READ: ReadBody = ReadBody {
     name: "metadata_read",
+    message: names::METADATA_RESPONSE,
     last: Some(metadata::LAST),
     widths: &metadata::WIDTHS,
     whole: false,
@@ -102,6 +108,7 @@ pub static METADATA_READ: ReadBody = ReadBody {
 /// The Fetch response.
 pub static FETCH_READ: ReadBody = ReadBody {
     name: "fetch_read",
+    message: names::FETCH_RESPONSE,
     last: Some(fetch::LAST),
     widths: &fetch::WIDTHS,
     whole: false,
@@ -113,6 +120,7 @@ pub static FETCH_READ: ReadBody = ReadBody {
 /// A write from tables.
 pub struct WriteBody {
     pub name: &'static str,
+    pub message: u8,
     pub last: Option<i16>,
     /// 13, 7 and 11, or the bytes; neither size nor room is judged.
     pub model: fn(i16, &Given) -> Result<Vec<u8>, Refusal>,
@@ -128,6 +136,7 @@ pub fn never(_version: i16, _given: &Given) -> Option<Vec<Own>> {
 
 pub static WRITE_TAGGED_FIELDS: WriteBody = WriteBody {
     name: "write_tagged_fields",
+    message: names::ALONE,
     last: None,
     model: write::write_tagged_fields,
     rust: rust::primitives::write_tagged_fields,
@@ -136,6 +145,7 @@ pub static WRITE_TAGGED_FIELDS: WriteBody = WriteBody {
 
 pub static RESPONSE_WRITE: WriteBody = WriteBody {
     name: "response_write",
+    message: names::API_VERSIONS_RESPONSE,
     last: Some(api_versions::LAST),
     model: api_versions::write_response,
     rust: rust::api_versions::write_response,
@@ -144,6 +154,7 @@ pub static RESPONSE_WRITE: WriteBody = WriteBody {
 
 pub static REQUEST_WRITE: WriteBody = WriteBody {
     name: "request_write",
+    message: names::API_VERSIONS_REQUEST,
     last: Some(api_versions::LAST),
     model: api_versions::write_request,
     rust: rust::api_versions::write_request,
@@ -153,6 +164,7 @@ pub static REQUEST_WRITE: WriteBody = WriteBody {
 /// The Metadata request.
 pub static METADATA_REQUEST_WRITE: WriteBody = WriteBody {
     name: "metadata_request_write",
+    message: names::METADATA_REQUEST,
     last: Some(metadata::LAST),
     model: metadata::write_request,
     rust: rust::metadata::write_request,
@@ -162,6 +174,7 @@ pub static METADATA_REQUEST_WRITE: WriteBody = WriteBody {
 /// The Fetch request.
 pub static FETCH_REQUEST_WRITE: WriteBody = WriteBody {
     name: "fetch_request_write",
+    message: names::FETCH_REQUEST,
     last: Some(fetch::LAST),
     model: fetch::write_request,
     rust: rust::fetch::write_request,

@@ -7,7 +7,7 @@ use crate::case::Case;
 use crate::line::{Answer, Refusal, Word};
 use crate::model::primitives::Primitive;
 use crate::model::write::Given;
-use crate::model::{agreement, in_order, judge_version, laid, metadata, primitives, stored, text, write, Shown};
+use crate::model::{agreement, in_order, judge_version, laid, metadata, names, primitives, stored, text, write, Shown};
 use crate::rust::{self, Heard, Silence};
 use crate::token::Token;
 
@@ -46,7 +46,9 @@ pub fn judge(case: &Case) -> Verdict<'_> {
         Case::Read { call, message } => judge_read(call.primitive, message),
         Case::Write { call, room, value } => {
             let made = write::write(call.primitive, value);
-            judge_written(&made, *room, (0, None), false, || rust::primitives::write(call.primitive, value))
+            judge_written(names::ALONE, &made, *room, (0, None), false, || {
+                rust::primitives::write(call.primitive, value)
+            })
         }
         Case::ReadBody { call, version, rooms, message } => judge_body(call, *version, rooms, message),
         Case::Host { version, node, message } => judge_host(*version, *node, message),
@@ -105,7 +107,7 @@ fn number_of<T>(reply: &Result<T, Refusal>) -> u8 {
 
 fn judge_read(primitive: Primitive, message: &[u8]) -> Verdict<'_> {
     let rules = primitives::read(primitive, message);
-    let reply = in_order(Ok(()), message.len(), &rules, false, &[], &[]).map(words);
+    let reply = in_order(names::ALONE, Ok(()), message.len(), &rules, false, &[], &[]).map(words);
     let entry = match number_of(&reply) {
         2 => Some(5),
         6 if matches!(primitive, Primitive::Bytes(..)) => Some(3),
@@ -153,7 +155,8 @@ fn judge_body<'a>(call: &ReadBody, version: i16, rooms: &[usize], message: &'a [
     // Below the range the Rust reads as at 0; above it never comes to the bytes.
     let at = version.clamp(0, last);
     let read = (call.model)(at, call.whole, message);
-    let judged = in_order(judge_version(last, version), message.len(), &read, call.whole, call.widths, rooms);
+    let known = judge_version(call.message, last, version);
+    let judged = in_order(call.message, known, message.len(), &read, call.whole, call.widths, rooms);
     let number = number_of(&judged);
     let reply = judged.map(words);
     let fronts = judged.ok().map(|shown| shown.tables.clone());
@@ -199,7 +202,8 @@ fn judge_host(version: i16, node: i64, message: &[u8]) -> Verdict<'_> {
     let last = metadata::LAST;
     let outside = entry_of_version(Some(last), version);
     let found = metadata::host(version.clamp(0, last), node, message);
-    let judged = in_order(judge_version(last, version), message.len(), &found, false, &[], &[]);
+    let known = judge_version(names::METADATA_RESPONSE, last, version);
+    let judged = in_order(names::METADATA_RESPONSE, known, message.len(), &found, false, &[], &[]);
     let entry = (number_of(&judged) == 2).then_some(5);
     let reply = judged.map(|shown| shown.own.clone());
     let spelled = found.map(|shown| (primitives::spell(&shown, message), shown.used));
@@ -218,7 +222,7 @@ fn judge_body_written<'a>(call: &WriteBody, room: usize, version: i16, given: &G
     // Tables that contradict themselves have no counterpart among the Rust's nested values.
     let torn = made.as_ref().is_err_and(|no| no.number == 13);
     let unset = (call.unavailable)(version, given);
-    let mut verdict = judge_written(&made, room, (version, call.last), unset.is_some(), || {
+    let mut verdict = judge_written(call.message, &made, room, (version, call.last), unset.is_some(), || {
         if torn {
             Err(Silence::CannotHold)
         } else {
@@ -240,6 +244,7 @@ fn complaint_unset(call: &WriteBody, version: i16, unset: &Given, made: &Result<
 /// A write: `made` is what the rules make of the fields at the version, or the nearest one that there is. Entry 4: a set field
 /// that the version lacks, unavailable, is refused by the Rust and dropped by the rules.
 fn judge_written<'a>(
+    message: u8,
     made: &Result<Vec<u8>, Refusal>,
     room: usize,
     (version, last): (i16, Option<i16>),
@@ -247,8 +252,8 @@ fn judge_written<'a>(
     ask: impl FnOnce() -> Result<rust::Written, Silence>,
 ) -> Verdict<'a> {
     let outside = entry_of_version(last, version);
-    let offered = judge_version(last.unwrap_or(0), version).and(made.as_deref().map_err(|no| *no));
-    let (reply, output) = stored(offered, room);
+    let offered = judge_version(message, last.unwrap_or(0), version).and(made.as_deref().map_err(|no| *no));
+    let (reply, output) = stored(message, offered, room);
     let entry = match number_of(&reply) {
         _ if unavailable && made.is_ok() => Some(4),
         2 => Some(5),

@@ -25,23 +25,36 @@ pub enum Lent {
     Output { room: usize, front: Vec<u8> },
 }
 
-/// A refusal: number, place, need.
+/// The row and the field of a refusal that has none.
+pub const NONE: i64 = -1;
+
+/// A refusal: number, place, need, and what it speaks of.
 #[derive(Debug, Clone, Copy, PartialEq, Eq)]
 pub struct Refusal {
     pub number: u8,
     pub place: usize,
     pub need: usize,
+    /// The message's number, one of those in `model::names`.
+    pub message: u8,
+    /// The row in its table, counted over the whole body; none for the body's own fields.
+    pub row: i64,
+    /// The position among the fields that the version has in that row.
+    pub field: i64,
 }
 
 impl Refusal {
-    pub fn at(number: u8, place: usize) -> Self {
-        Self { number, place, need: 0 }
+    /// With neither row nor field.
+    pub fn at(message: u8, number: u8, place: usize) -> Self {
+        Self { number, place, need: 0, message, row: NONE, field: NONE }
     }
 
-    pub fn no_room(need: usize) -> Self {
-        Self { number: 10, place: 0, need }
+    pub fn no_room(message: u8, need: usize) -> Self {
+        Self { need, ..Self::at(message, 10, 0) }
     }
 }
+
+/// Does a line say what a refusal speaks of? docs/ANSWERS.md has no words for it yet.
+const LINES_HAVE_NAMES: bool = false;
 
 /// A whole answer.
 #[derive(Debug, Clone, PartialEq, Eq)]
@@ -60,7 +73,7 @@ impl Answer<'_> {
                     put_word(line, word);
                 }
             }
-            Err(no) => write!(line, "no {} {} {}", no.number, no.place, no.need).unwrap(),
+            Err(no) => put_refusal(line, no),
         }
         for lent in &self.lent {
             line.push(b' ');
@@ -69,6 +82,13 @@ impl Answer<'_> {
         if !self.lent.is_empty() {
             line.extend(b" kept");
         }
+    }
+}
+
+fn put_refusal(line: &mut Vec<u8>, no: &Refusal) {
+    write!(line, "no {} {} {}", no.number, no.place, no.need).unwrap();
+    if LINES_HAVE_NAMES {
+        write!(line, " {} {} {}", no.message, no.row, no.field).unwrap();
     }
 }
 

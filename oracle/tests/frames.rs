@@ -120,7 +120,7 @@ fn cut_frames_and_short_sizes() {
         let frame = framed(&good(side, number));
         for length in 0..frame.len() {
             let no = (side.read().model)(number as i16, &frame[..length]).expect_err("a frame that is cut");
-            assert_eq!(no, Refusal::at(3, 0));
+            assert_eq!(no, Refusal::at(side.read().headers.message, 3, 0));
         }
     }
     // Size, the places at which primitives start, and the first byte after the header.
@@ -133,11 +133,12 @@ fn cut_frames_and_short_sizes() {
     for (side, number, starts) in starts {
         let contents = good(side, number);
         for size in 0..=contents.len() {
-            let read = (side.read().model)(number as i16, &sized(size as i64, &contents)).map(|shown| shown.used);
+            let frame = sized(size as i64, &contents);
+            let read = (side.read().model)(number as i16, &frame).map(|shown| shown.used);
             let (header, end) = (*starts.last().unwrap(), SIZE + size);
             let at = starts.iter().rfind(|start| **start <= end).unwrap();
-            let expected = if end >= header { Ok(end) } else { Err(Refusal::at(3, *at)) };
-            assert_eq!(read, expected, "{side:?} {number} {size}");
+            let expected = if end >= header { Ok(end) } else { Err((3, *at, 0)) };
+            assert_eq!(read.map_err(|no| (no.number, no.place, no.need)), expected, "{side:?} {number} {size}");
         }
     }
 }
@@ -283,7 +284,7 @@ static NEGATIVE_IS_CUT: [ReadFrame; 2] = [
 
 fn as_cut(no: Refusal) -> Refusal {
     if no.number == 14 {
-        Refusal::at(3, 0)
+        Refusal::at(no.message, 3, 0)
     } else {
         no
     }

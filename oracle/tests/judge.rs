@@ -7,7 +7,6 @@ use oracle::line::{Refusal, Word};
 use oracle::make::{fetch as fetched, metadata as made, reads, rng::Rng, writes, Section};
 use oracle::model::write::{Given, Own};
 use oracle::model::{api_versions, fetch, metadata, Shown};
-use oracle::rust;
 
 /// The prefix read of a response, but for its model.
 const fn slip(model: for<'a> fn(i16, bool, &'a [u8]) -> Result<Shown<'a>, Refusal>) -> ReadBody {
@@ -71,8 +70,7 @@ fn never_refused(version: i16, given: &Given) -> Result<Vec<u8>, Refusal> {
 
 /// The writer of a response, but for its model.
 const fn slip_in_writing(model: fn(i16, &Given) -> Result<Vec<u8>, Refusal>) -> WriteBody {
-    let rust = rust::api_versions::write_response;
-    WriteBody { name: "response_write", last: Some(3), model, rust, unavailable: never }
+    WriteBody { model, ..RESPONSE_WRITE }
 }
 
 static MORE: WriteBody = slip_in_writing(one_byte_more);
@@ -173,7 +171,7 @@ const fn slip_in_request(
     model: fn(i16, &Given) -> Result<Vec<u8>, Refusal>,
     unavailable: fn(i16, &Given) -> Option<Vec<Own>>,
 ) -> WriteBody {
-    WriteBody { name: "metadata_request_write", last: Some(4), model, rust: rust::metadata::write_request, unavailable }
+    WriteBody { model, unavailable, ..METADATA_REQUEST_WRITE }
 }
 
 static UNSET_IS_FALSE: WriteBody = slip_in_request(

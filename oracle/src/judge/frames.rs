@@ -33,7 +33,7 @@ fn nearest(known: Headers, header: i64) -> i16 {
 pub fn judge_read<'a>(call: &ReadFrame, header: i64, room: usize, message: &'a [u8]) -> Verdict<'a> {
     let outside = entry_of_header(call.headers, header);
     let read = (call.model)(nearest(call.headers, header), message);
-    let judged = in_order(judge_header(call.headers, header), &read, room);
+    let judged = in_order(call.headers, header, &read, room);
     let entry = outside.or(match number_of(&judged) {
         10 => Some(7),
         14 if stop_of(&read, message) == Some(Stop::End) => Some(TOO_LARGE_AND_CUT),
@@ -61,7 +61,7 @@ pub fn judge_read<'a>(call: &ReadFrame, header: i64, room: usize, message: &'a [
 /// reads as many bytes first.
 fn stop_of<T>(read: &Result<T, Refusal>, message: &[u8]) -> Option<Stop> {
     let no = read.as_ref().err().filter(|no| no.place < SIZE)?;
-    let refused = size(message).ok().filter(|_| no.number == 14);
+    let refused = size(message).filter(|_| no.number == 14);
     Some(match refused {
         Some(..0) => Stop::Negative,
         Some(size) if (message.len() - SIZE) as i64 >= size => Stop::TooLarge,
@@ -73,7 +73,7 @@ pub fn judge_written<'a>(call: &WriteFrame, room: usize, header: i64, given: &Gi
     let outside = entry_of_header(call.headers, header);
     let made = (call.model)(nearest(call.headers, header), given).map(|header| framed(&header, body));
     let offered = judge_header(call.headers, header).and(made.as_deref().map_err(|no| *no));
-    let (reply, output) = stored(offered, room);
+    let (reply, output) = stored(call.headers.message, offered, room);
     let entry = match number_of(&reply) {
         2 => Some(5),
         10 => Some(7),

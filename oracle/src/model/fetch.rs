@@ -1,5 +1,6 @@
 //! Fetch bodies: docs/RULES.md, sections 4 to 7. The response's tables are topics, partitions and aborted transactions, the
 //! request's are topics and partitions.
+use super::names::{FETCH_REQUEST, FETCH_RESPONSE};
 use super::primitives::{Form, Null, Reader};
 use super::write::{Fields, Given, Own, Tables};
 use super::Shown;
@@ -23,31 +24,34 @@ type Read<T> = Result<T, Refusal>;
 
 /// The response, from its first byte.
 pub fn read_response(version: i16, _whole: bool, message: &[u8]) -> Read<Shown<'_>> {
-    let mut reader = Reader::new(message, WIDTHS.len());
+    let mut reader = Reader::new(FETCH_RESPONSE, message, WIDTHS.len());
     let throttle = reader.number_from(1, version)?;
-    let topics = reader.counted(|reader| read_topic(version, reader))?.unwrap_or(0);
+    let topics = reader.field().counted(TOPICS, |reader| read_topic(version, reader))?.unwrap_or(0);
     Ok(reader.shown(vec![throttle, Word::Number(topics.into())]))
 }
 
 fn read_topic(version: i16, reader: &mut Reader) -> Read<()> {
-    let name = reader.span(Null::Never)?.unwrap_or_default();
-    let partitions = reader.counted(|reader| read_partition(version, reader))?.unwrap_or(0);
+    let name = reader.field().span(Null::Never)?.unwrap_or_default();
+    let partitions = reader.field().counted(PARTITIONS, |reader| read_partition(version, reader))?.unwrap_or(0);
     reader.tables[TOPICS].extend([name[0], name[1], partitions]);
     Ok(())
 }
 
 fn read_partition(version: i16, reader: &mut Reader) -> Read<()> {
-    let [index, error, watermark] = [reader.int(4)?, reader.int(2)?, reader.int(8)?];
-    let [stable, aborted] =
-        if version >= 4 { [reader.int(8)?, reader.counted(read_aborted)?.unwrap_or(0)] } else { [LACKING, 0] };
-    let Word::Part(start, records) = reader.bytes(Form::Int32, Null::Empty)? else { unreachable!() };
+    let [index, error, watermark] = [reader.field().int(4)?, reader.field().int(2)?, reader.field().int(8)?];
+    let [stable, aborted] = if version >= 4 {
+        [reader.field().int(8)?, reader.field().counted(ABORTED, read_aborted)?.unwrap_or(0)]
+    } else {
+        [LACKING, 0]
+    };
+    let Word::Part(start, records) = reader.field().bytes(Form::Int32, Null::Empty)? else { unreachable!() };
     let span = [start as i64, records.len() as i64];
     reader.tables[PARTITIONS].extend([index, error, watermark, stable, aborted, span[0], span[1]]);
     Ok(())
 }
 
 fn read_aborted(reader: &mut Reader) -> Read<()> {
-    let pair = [reader.int(8)?, reader.int(8)?];
+    let pair = [reader.field().int(8)?, reader.field().int(8)?];
     reader.tables[ABORTED].extend(pair);
     Ok(())
 }
@@ -101,33 +105,38 @@ const READ_UNCOMMITTED: i64 = 0;
 /// A request to write: own words replica, longest wait, fewest bytes, most bytes, isolation and topic count.
 pub fn write_request(version: i16, given: &Given) -> Result<Vec<u8>, Refusal> {
     let [replica, wait, least, largest, isolation, Own::Number(count)] = given.own else { unreachable!() };
-    let [topics, partitions] = [0, 1].map(|table| given.rows(table, ASKED[table]));
-    let mut tables = Tables::new(given);
+    let [topics, partitions] = [TOPICS, PARTITIONS].map(|table| given.rows(table, ASKED[table]));
+    let mut tables = Tables::new(FETCH_REQUEST, given);
     tables.must_be(*count, topics.len());
     tables.must_add_up(topics.iter().map(|topic| topic[2]), partitions.len());
     topics.iter().for_each(|topic| tables.inside(&Own::Part(topic[0], topic[1])));
-    tables.judged()?;
+    let mut fields = tables.judged()?;
 
-    let mut fields = Fields::default();
-    [replica, wait, least].into_iter().for_each(|number| fields.int(4, number.or(0)));
+    [replica, wait, least].into_iter().for_each(|number| fields.field().int(4, number.or(0)));
     if version >= 3 {
-        fields.int(4, largest.or(ALL_BYTES));
+        fields.field().int(4, largest.or(ALL_BYTES));
     }
     if version >= 4 {
         let level = isolation.or(READ_UNCOMMITTED);
-        fields.must([0, 1].contains(&level), 11);
+        fields.field().must([0, 1].contains(&level), 11);
         fields.int(1, level);
     }
-    fields.length(Form::Int32, topics.len());
+    fields.field().length(Form::Int32, topics.len());
     let mut rows = partitions.into_iter();
     for topic in topics {
-        fields.text(Form::Int16, given.range(topic[0], topic[1]));
-        fields.length(Form::Int32, topic[2] as usize);
-        for partition in rows.by_ref().take(topic[2] as usize) {
-            fields.int(4, partition[0]);
-            fields.int(8, partition[1]);
-            fields.int(4, partition[2]);
-        }
+        fields.row(TOPICS, |fields| {
+            fields.field().text(Form::Int16, given.range(topic[0], topic[1]));
+            fields.field().length(Form::Int32, topic[2] as usize);
+            rows.by_ref().take(topic[2] as usize).for_each(|partition| put_partition(fields, partition));
+        });
     }
     fields.judged()
+}
+
+fn put_partition(fields: &mut Fields, partition: &[i64]) {
+    fields.row(PARTITIONS, |fields| {
+        fields.field().int(4, partition[0]);
+        fields.field().int(8, partition[1]);
+        fields.field().int(4, partition[2]);
+    });
 }

@@ -1,7 +1,8 @@
 //! Metadata bodies and the address lookup: docs/RULES.md, sections 4 to 7 and 9. The response's tables are brokers, topics,
 //! partitions, replicas and in-sync replicas, the request's is topics.
+use super::names::{METADATA_REQUEST, METADATA_RESPONSE};
 use super::primitives::{Form, Null, Reader};
-use super::write::{Fields, Given, Own, Tables};
+use super::write::{Given, Own, Tables};
 use super::Shown;
 use crate::line::{Refusal, Word};
 use crate::token::{contents, of_word, Spelling, Token};
@@ -29,43 +30,43 @@ type Read<T> = Result<T, Refusal>;
 
 /// The response, from its first byte.
 pub fn read_response(version: i16, _whole: bool, message: &[u8]) -> Read<Shown<'_>> {
-    let mut reader = Reader::new(message, WIDTHS.len());
+    let mut reader = Reader::new(METADATA_RESPONSE, message, WIDTHS.len());
     let throttle = reader.number_from(3, version)?;
-    let brokers = reader.counted(|reader| read_broker(version, reader))?;
-    let cluster = if version >= 2 { reader.text(Form::Int16, Null::Kept)? } else { Word::Absent };
+    let brokers = reader.field().counted(BROKERS, |reader| read_broker(version, reader))?;
+    let cluster = if version >= 2 { reader.field().text(Form::Int16, Null::Kept)? } else { Word::Absent };
     let controller = reader.number_from(1, version)?;
-    let topics = reader.counted(|reader| read_topic(version, reader))?;
+    let topics = reader.field().counted(TOPICS, |reader| read_topic(version, reader))?;
     let count = |n: Option<i64>| Word::Number(n.unwrap_or(0).into());
     Ok(reader.shown(vec![throttle, count(brokers), cluster, controller, count(topics)]))
 }
 
 fn read_broker(version: i16, reader: &mut Reader) -> Read<()> {
-    let node = reader.int(4)?;
-    let host = reader.span(Null::Never)?.unwrap_or_default();
-    let port = reader.int(4)?;
+    let node = reader.field().int(4)?;
+    let host = reader.field().span(Null::Never)?.unwrap_or_default();
+    let port = reader.field().int(4)?;
     let rack = if version < 1 {
         [ABSENT, 0, 0]
     } else {
-        reader.span(Null::Kept)?.map_or([NULL, 0, 0], |[start, length]| [PRESENT, start, length])
+        reader.field().span(Null::Kept)?.map_or([NULL, 0, 0], |[start, length]| [PRESENT, start, length])
     };
     reader.tables[BROKERS].extend([node, host[0], host[1], port, rack[0], rack[1], rack[2]]);
     Ok(())
 }
 
 fn read_topic(version: i16, reader: &mut Reader) -> Read<()> {
-    let error = reader.int(2)?;
-    let name = reader.span(Null::Never)?.unwrap_or_default();
-    let internal = if version >= 1 { (reader.int(1)? != 0).into() } else { LACKING };
-    let partitions = reader.counted(read_partition)?.unwrap_or(0);
+    let error = reader.field().int(2)?;
+    let name = reader.field().span(Null::Never)?.unwrap_or_default();
+    let internal = if version >= 1 { (reader.field().int(1)? != 0).into() } else { LACKING };
+    let partitions = reader.field().counted(PARTITIONS, read_partition)?.unwrap_or(0);
     reader.tables[TOPICS].extend([error, name[0], name[1], internal, partitions]);
     Ok(())
 }
 
 fn read_partition(reader: &mut Reader) -> Read<()> {
-    let [error, index, leader] = [reader.int(2)?, reader.int(4)?, reader.int(4)?];
+    let [error, index, leader] = [reader.field().int(2)?, reader.field().int(4)?, reader.field().int(4)?];
     let mut nodes = |table: usize| {
-        reader.counted(|reader| {
-            let node = reader.int(4)?;
+        reader.field().counted(table, |reader| {
+            let node = reader.field().int(4)?;
             reader.tables[table].push(node);
             Ok(())
         })
@@ -150,19 +151,20 @@ impl Rows<'_, '_> {
 pub fn write_request(version: i16, given: &Given) -> Result<Vec<u8>, Refusal> {
     let [Own::Number(count), creation] = given.own else { unreachable!() };
     let topics = given.rows(0, NAME);
-    let mut tables = Tables::new(given);
+    let mut tables = Tables::new(METADATA_REQUEST, given);
     tables.must_be(if *count == LACKING { 0 } else { *count }, topics.len());
     topics.iter().for_each(|topic| tables.inside(&Own::Part(topic[0], topic[1])));
-    tables.judged()?;
+    let mut fields = tables.judged()?;
 
-    let mut fields = Fields::default();
     match *count {
-        LACKING => fields.null(Form::Int32),
-        _ => fields.length(Form::Int32, topics.len()),
+        LACKING => fields.field().null(Form::Int32),
+        _ => fields.field().length(Form::Int32, topics.len()),
     }
-    topics.iter().for_each(|topic| fields.text(Form::Int16, given.range(topic[0], topic[1])));
+    for topic in topics {
+        fields.row(0, |fields| fields.field().text(Form::Int16, given.range(topic[0], topic[1])));
+    }
     if version >= 4 {
-        fields.int(1, (*creation != Own::Flag(false)).into());
+        fields.field().int(1, (*creation != Own::Flag(false)).into());
     }
     fields.judged()
 }

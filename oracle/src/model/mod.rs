@@ -1,10 +1,11 @@
 //! The rules of docs/RULES.md as a plain reader and writer, written from the page and from nothing else. They give what the
-//! Rust has no word for: numbers, places, needs, starts and rows.
+//! Rust has no word for: numbers, places, needs, what a refusal speaks of, starts and rows.
 pub mod agreement;
 pub mod api_versions;
 pub mod fetch;
 pub mod frames;
 pub mod metadata;
+pub mod names;
 pub mod primitives;
 pub mod text;
 pub mod write;
@@ -23,38 +24,38 @@ pub struct Shown<'a> {
 }
 
 /// 1: a call with versions has those from 0 to `last`.
-pub fn judge_version(last: i16, version: i16) -> Result<(), Refusal> {
+pub fn judge_version(message: u8, last: i16, version: i16) -> Result<(), Refusal> {
     if (0..=last).contains(&version) {
         Ok(())
     } else {
-        Err(Refusal::at(1, 0))
+        Err(Refusal::at(message, 1, 0))
     }
 }
 
 /// 2, of a message and of what would be written.
-fn judge_size(size: usize) -> Result<(), Refusal> {
+fn judge_size(message: u8, size: usize) -> Result<(), Refusal> {
     if size <= LIMIT {
         Ok(())
     } else {
-        Err(Refusal::at(2, 0))
+        Err(Refusal::at(message, 2, 0))
     }
 }
 
 /// 9: a whole read has used every byte.
-fn judge_rest(used: usize, size: usize) -> Result<(), Refusal> {
+fn judge_rest(message: u8, used: usize, size: usize) -> Result<(), Refusal> {
     if used < size {
-        Err(Refusal::at(9, used))
+        Err(Refusal::at(message, 9, used))
     } else {
         Ok(())
     }
 }
 
 /// 10 for the first table that has fewer rows than the value; a cut row is no row.
-fn judge_rooms(shown: &Shown, widths: &[usize], rooms: &[usize]) -> Result<(), Refusal> {
+fn judge_rooms(message: u8, shown: &Shown, widths: &[usize], rooms: &[usize]) -> Result<(), Refusal> {
     for ((cells, width), room) in shown.tables.iter().zip(widths).zip(rooms) {
         let rows = cells.len() / width;
         if room / width < rows {
-            return Err(Refusal::no_room(rows));
+            return Err(Refusal::no_room(message, rows));
         }
     }
     Ok(())
@@ -62,6 +63,7 @@ fn judge_rooms(shown: &Shown, widths: &[usize], rooms: &[usize]) -> Result<(), R
 
 /// The order of refusals on reading: 1, 2, what the bytes gave, 9, 10.
 pub fn in_order<'s, 'a>(
+    message: u8,
     version: Result<(), Refusal>,
     size: usize,
     bytes: &'s Result<Shown<'a>, Refusal>,
@@ -70,12 +72,12 @@ pub fn in_order<'s, 'a>(
     rooms: &[usize],
 ) -> Result<&'s Shown<'a>, Refusal> {
     version?;
-    judge_size(size)?;
+    judge_size(message, size)?;
     let shown = bytes.as_ref().map_err(|no| *no)?;
     if whole {
-        judge_rest(shown.used, size)?;
+        judge_rest(message, shown.used, size)?;
     }
-    judge_rooms(shown, widths, rooms)?;
+    judge_rooms(message, shown, widths, rooms)?;
     Ok(shown)
 }
 
@@ -86,18 +88,20 @@ pub fn laid(rooms: &[usize], fronts: Option<Vec<Vec<i64>>>) -> Vec<Lent> {
 }
 
 /// The reply to a write that has come as far as its bytes, and the output behind it: 2, then 10, then the bytes at the front.
-pub fn stored<'a>(made: Result<&[u8], Refusal>, room: usize) -> (Result<Vec<Word<'a>>, Refusal>, Lent) {
+pub fn stored<'a>(message: u8, made: Result<&[u8], Refusal>, room: usize) -> (Result<Vec<Word<'a>>, Refusal>, Lent) {
     let limited = made.and_then(|bytes| {
-        judge_size(bytes.len())?;
+        judge_size(message, bytes.len())?;
         Ok(bytes)
     });
-    output(limited, room)
+    output(message, limited, room)
 }
 
 /// 10, then the bytes at the front.
-fn output<'a>(made: Result<&[u8], Refusal>, room: usize) -> (Result<Vec<Word<'a>>, Refusal>, Lent) {
+fn output<'a>(message: u8, made: Result<&[u8], Refusal>, room: usize) -> (Result<Vec<Word<'a>>, Refusal>, Lent) {
     match made {
-        Ok(bytes) if room < bytes.len() => (Err(Refusal::no_room(bytes.len())), Lent::Output { room, front: vec![] }),
+        Ok(bytes) if room < bytes.len() => {
+            (Err(Refusal::no_room(message, bytes.len())), Lent::Output { room, front: vec![] })
+        }
         Ok(bytes) => (Ok(vec![Word::Number(bytes.len() as i128)]), Lent::Output { room, front: bytes.to_vec() }),
         Err(no) => (Err(no), Lent::Output { room, front: vec![] }),
     }

@@ -1,4 +1,5 @@
-//! Primitives, read: docs/RULES.md, section 2. A reader holds the message and a place.
+//! Primitives, read: docs/RULES.md, section 2. A reader holds the message, a place, and the row and field that it is in.
+use super::names::{Cursor, ALONE};
 use super::text::{is_text, well_formed};
 use super::Shown;
 use crate::line::{Refusal, Word};
@@ -38,24 +39,45 @@ pub struct Reader<'a> {
     pub at: usize,
     /// Rows of each table, by rank.
     pub tables: Vec<Vec<i64>>,
+    cursor: Cursor,
 }
 
 type Read<T> = Result<T, Refusal>;
 
 impl<'a> Reader<'a> {
-    pub fn new(message: &'a [u8], tables: usize) -> Self {
-        Self { message, at: 0, tables: vec![vec![]; tables] }
+    /// `of` is the message's number.
+    pub fn new(of: u8, message: &'a [u8], tables: usize) -> Self {
+        Self { message, at: 0, tables: vec![vec![]; tables], cursor: Cursor::new(of) }
     }
 
     pub fn shown(self, own: Vec<Word<'a>>) -> Shown<'a> {
         Shown { used: self.at, own, tables: self.tables }
     }
 
+    /// The next field of the row, which is to be read. A primitive by itself is no field.
+    pub fn field(&mut self) -> &mut Self {
+        self.cursor.field();
+        self
+    }
+
+    /// The next row of a table; then the row around it goes on.
+    pub fn row(&mut self, table: usize, item: impl FnOnce(&mut Self) -> Read<()>) -> Read<()> {
+        let around = self.cursor.enter(table);
+        item(self)?;
+        self.cursor.leave(around);
+        Ok(())
+    }
+
+    /// A refusal in the row and field that is being read.
+    pub fn refusal(&self, number: u8, place: usize) -> Refusal {
+        self.cursor.refusal(number, place)
+    }
+
     /// Two's complement, highest byte first.
     pub fn int(&mut self, bytes: usize) -> Read<i64> {
         let end = self.at + bytes;
         if end > self.message.len() {
-            return Err(Refusal::at(3, self.at));
+            return Err(self.refusal(3, self.at));
         }
         let unsigned = self.message[self.at..end].iter().fold(0i128, |n, b| n * 256 + i128::from(*b));
         self.at = end;
@@ -67,14 +89,14 @@ impl<'a> Reader<'a> {
     pub fn unsigned_varint(&mut self) -> Read<u64> {
         let mut number: u128 = 0;
         for i in 0..10 {
-            let byte = *self.message.get(self.at + i).ok_or(Refusal::at(3, self.at))?;
+            let Some(byte) = self.message.get(self.at + i) else { return Err(self.refusal(3, self.at)) };
             number += u128::from(byte % 128) << (7 * i);
-            if byte < 128 {
+            if *byte < 128 {
                 self.at += i + 1;
                 return Ok((number % (1 << 64)) as u64);
             }
         }
-        Err(Refusal::at(5, self.at))
+        Err(self.refusal(5, self.at))
     }
 
     fn varlong(&mut self) -> Read<i64> {
@@ -86,7 +108,7 @@ impl<'a> Reader<'a> {
     fn varint(&mut self) -> Read<i64> {
         let start = self.at;
         let number = self.varlong()?;
-        i32::try_from(number).map_err(|_| Refusal::at(11, start))?;
+        i32::try_from(number).map_err(|_| self.refusal(11, start))?;
         Ok(number)
     }
 
@@ -100,7 +122,7 @@ impl<'a> Reader<'a> {
         };
         match self.int(bytes)? {
             -1 => Ok(None),
-            n => u64::try_from(n).map(Some).map_err(|_| Refusal::at(4, start)),
+            n => u64::try_from(n).map(Some).map_err(|_| self.refusal(4, start)),
         }
     }
 
@@ -108,7 +130,7 @@ impl<'a> Reader<'a> {
     fn contents(&mut self, start: usize, length: u64) -> Read<Word<'a>> {
         let rest = &self.message[self.at..];
         if (rest.len() as u64) < length {
-            return Err(Refusal::at(3, start));
+            return Err(self.refusal(3, start));
         }
         let part = Word::Part(self.at, &rest[..length as usize]);
         self.at += length as usize;
@@ -121,14 +143,14 @@ impl<'a> Reader<'a> {
             (Some(length), _) => self.contents(start, length),
             (None, Null::Kept) => Ok(Word::Null),
             (None, Null::Empty) => self.contents(start, 0),
-            (None, Null::Never) => Err(Refusal::at(if form == Form::Compact { 6 } else { 4 }, start)),
+            (None, Null::Never) => Err(self.refusal(if form == Form::Compact { 6 } else { 4 }, start)),
         }
     }
 
     /// Text that is not well-formed is refused where its longest well-formed beginning ends.
     pub fn text(&mut self, form: Form, null: Null) -> Read<Word<'a>> {
         match self.bytes(form, null)? {
-            Word::Part(start, contents) if !is_text(contents) => Err(Refusal::at(7, start + well_formed(contents))),
+            Word::Part(start, contents) if !is_text(contents) => Err(self.refusal(7, start + well_formed(contents))),
             word => Ok(word),
         }
     }
@@ -141,16 +163,16 @@ impl<'a> Reader<'a> {
         })
     }
 
-    /// An Int32 that the body has from a version on.
+    /// A field that the body has from a version on: an Int32.
     pub fn number_from(&mut self, first: i16, version: i16) -> Read<Word<'a>> {
-        Ok(if version >= first { Word::Number(self.int(4)?.into()) } else { Word::Absent })
+        Ok(if version >= first { Word::Number(self.field().int(4)?.into()) } else { Word::Absent })
     }
 
-    /// An array: how many items it has, nothing for null.
-    pub fn counted(&mut self, item: impl Fn(&mut Self) -> Read<()>) -> Read<Option<i64>> {
+    /// An array: how many items it has, nothing for null. Each is a row of the table.
+    pub fn counted(&mut self, table: usize, item: impl Fn(&mut Self) -> Read<()>) -> Read<Option<i64>> {
         let count = self.length(Form::Int32)?;
         for _ in 0..count.unwrap_or(0) {
-            item(self)?;
+            self.row(table, &item)?;
         }
         Ok(count.map(|n| n as i64))
     }
@@ -159,14 +181,20 @@ impl<'a> Reader<'a> {
     pub fn tagged_fields(&mut self, table: usize) -> Read<i64> {
         let count = self.unsigned_varint()?;
         for _ in 0..count {
-            let tag = self.unsigned_varint()?;
-            let start = self.at;
-            let length = self.unsigned_varint()?;
-            let data = self.at;
-            self.contents(start, length)?;
-            self.tables[table].extend([tag as i64, data as i64, length as i64]);
+            self.row(table, |reader| reader.tag(table))?;
         }
         Ok(count as i64)
+    }
+
+    /// Two fields: the tag, and its length with the data.
+    fn tag(&mut self, table: usize) -> Read<()> {
+        let tag = self.field().unsigned_varint()?;
+        let start = self.at;
+        let length = self.field().unsigned_varint()?;
+        let data = self.at;
+        self.contents(start, length)?;
+        self.tables[table].extend([tag as i64, data as i64, length as i64]);
+        Ok(())
     }
 
     pub fn primitive(&mut self, primitive: Primitive) -> Read<Word<'a>> {
@@ -186,14 +214,14 @@ impl<'a> Reader<'a> {
 
 /// A primitive called by itself, size not judged.
 pub fn read(primitive: Primitive, message: &[u8]) -> Read<Shown<'_>> {
-    let mut reader = Reader::new(message, 0);
+    let mut reader = Reader::new(ALONE, message, 0);
     let word = reader.primitive(primitive)?;
     Ok(reader.shown(vec![word]))
 }
 
 /// Tagged fields called by themselves.
 pub fn read_tagged_fields(_version: i16, _whole: bool, message: &[u8]) -> Read<Shown<'_>> {
-    let mut reader = Reader::new(message, 1);
+    let mut reader = Reader::new(ALONE, message, 1);
     let count = reader.tagged_fields(0)?;
     Ok(reader.shown(vec![Word::Number(count.into())]))
 }

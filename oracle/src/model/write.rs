@@ -1,4 +1,6 @@
-//! What is written: docs/RULES.md, sections 2 and 7. 13 is judged over all that is lent, then 7 and 11 in field order.
+//! What is written: docs/RULES.md, sections 2 and 7. 13 is judged over all that is lent, then 7 and 11 in field order, each with
+//! the row and field that it is in.
+use super::names::{Cursor, ALONE};
 use super::primitives::{Form, Primitive};
 use super::text::is_text;
 use crate::line::Refusal;
@@ -59,14 +61,16 @@ impl<'a> Given<'a> {
 
 /// 13: do the tables agree with the counts, and lie all ranges inside?
 pub struct Tables<'g, 'a> {
+    message: u8,
     given: &'g Given<'a>,
     tags: i128,
     good: bool,
 }
 
 impl<'g, 'a> Tables<'g, 'a> {
-    pub fn new(given: &'g Given<'a>) -> Self {
-        Self { given, tags: 0, good: true }
+    /// `message` is the number of what is to be written.
+    pub fn new(message: u8, given: &'g Given<'a>) -> Self {
+        Self { message, given, tags: 0, good: true }
     }
 
     /// A count that cannot be -1.
@@ -105,28 +109,46 @@ impl<'g, 'a> Tables<'g, 'a> {
         }
     }
 
-    pub fn judged(&self) -> Result<(), Refusal> {
+    /// 13, or fields of the message, of which none is put yet.
+    pub fn judged(&self) -> Result<Fields, Refusal> {
         if self.good {
-            Ok(())
+            Ok(Fields::new(self.message))
         } else {
-            Err(Refusal::at(13, 0))
+            Err(Refusal::at(self.message, 13, 0))
         }
     }
 }
 
-/// Fields one after another, the number of the first that cannot be written, and whether there is a length or count that four
+/// Fields one after another, the refusal of the first that cannot be written, and whether there is a length or count that four
 /// bytes or a varint cannot carry: what it stands for is over the limit, which is judged after all faults.
-#[derive(Default)]
 pub struct Fields {
     bytes: Vec<u8>,
-    fault: Option<u8>,
+    fault: Option<Refusal>,
     over: bool,
+    cursor: Cursor,
 }
 
 impl Fields {
+    fn new(message: u8) -> Self {
+        Self { bytes: vec![], fault: None, over: false, cursor: Cursor::new(message) }
+    }
+
+    /// The next field of the row, which is to be put. A primitive by itself is no field.
+    pub fn field(&mut self) -> &mut Self {
+        self.cursor.field();
+        self
+    }
+
+    /// The next row of a table; then the row around it goes on.
+    pub fn row(&mut self, table: usize, item: impl FnOnce(&mut Self)) {
+        let around = self.cursor.enter(table);
+        item(self);
+        self.cursor.leave(around);
+    }
+
     pub fn must(&mut self, holds: bool, number: u8) {
         if !holds {
-            self.fault.get_or_insert(number);
+            self.fault.get_or_insert(self.cursor.refusal(number, 0));
         }
     }
 
@@ -184,7 +206,7 @@ impl Fields {
         self.must(is_text(contents), 7);
     }
 
-    /// So many of the rows that are left, none for -1.
+    /// So many of the rows that are left, none for -1. They have no faults, so these rows are not counted.
     pub fn tagged_fields<'a>(&mut self, given: &Given, rows: &mut impl Iterator<Item = &'a [i64]>, count: i64) {
         let count = count.max(0);
         self.unsigned_varint(count as u128);
@@ -198,8 +220,8 @@ impl Fields {
 
     pub fn judged(self) -> Result<Vec<u8>, Refusal> {
         match self.fault {
-            Some(number) => Err(Refusal::at(number, 0)),
-            None if self.over => Err(Refusal::at(2, 0)),
+            Some(no) => Err(no),
+            None if self.over => Err(Refusal::at(self.cursor.message, 2, 0)),
             None => Ok(self.bytes),
         }
     }
@@ -216,7 +238,7 @@ pub enum Value {
 
 /// A primitive by itself, before 2 and 10.
 pub fn write(primitive: Primitive, value: &Value) -> Result<Vec<u8>, Refusal> {
-    let mut fields = Fields::default();
+    let mut fields = Fields::new(ALONE);
     match (primitive, value) {
         (Primitive::Int(bytes), Value::Number(n)) => fields.int(bytes, *n),
         (Primitive::Boolean, Value::Number(n)) => fields.int(1, (*n != 0).into()),
@@ -240,11 +262,10 @@ pub fn write(primitive: Primitive, value: &Value) -> Result<Vec<u8>, Refusal> {
 /// Tagged fields by themselves: the own row is their count.
 pub fn write_tagged_fields(_version: i16, given: &Given) -> Result<Vec<u8>, Refusal> {
     let [Own::Number(count)] = given.own else { unreachable!() };
-    let mut tables = Tables::new(given);
+    let mut tables = Tables::new(ALONE, given);
     tables.tag_count(*count);
     tables.tags_must_add_up(0);
-    tables.judged()?;
-    let mut fields = Fields::default();
+    let mut fields = tables.judged()?;
     fields.tagged_fields(given, &mut given.tag_rows(0), *count);
     fields.judged()
 }

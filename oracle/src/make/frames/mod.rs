@@ -43,7 +43,7 @@ impl Side {
 /// Every side with every header number that it has.
 pub fn known() -> impl Iterator<Item = (Side, i64)> {
     SIDES.into_iter().flat_map(|side| {
-        let Headers { first, last } = side.read().headers;
+        let Headers { first, last, .. } = side.read().headers;
         (first..=last).map(move |header| (side, header))
     })
 }
