@@ -17,6 +17,10 @@ use Rattle.layout.specs.Rows.{Shape, field, number}
 use Rattle.layout.specs.Tables.{Tables, append, cells, readRows}
 use Rattle.layout.specs.Names.{fieldless, nameAt, nameBy, seek}
 use Rattle.layout.specs.Answers.{Message, ended, most, named, noRows, noneYet, seen, shape}
+use Rattle.layout.specs.Messages.ApiVersions as Api
+use Rattle.layout.specs.Messages.Fetch as Fetch
+use Rattle.layout.specs.Messages.Headers as Headers
+use Rattle.layout.specs.Messages.Metadata as Metadata
 use Rattle.layout.specs.Frames.{Header, frameBytes, frameNamed, frameSeen, frameSize, inFrame, sizeOf, withBody, withSize}
 use Rattle.layout.proofs.Found.{Stops, reading, right}
 use Rattle.layout.proofs.Frames.{number-is, size-inv, sized-shape}
@@ -47,9 +51,13 @@ module _ {A X : Type 0} (e : Refusal) (h : fieldless (e .number) ≡ false) wher
       let z : _≡_ {A = ℕ} 0 1 = cc in
       absurd (omega arith)
 
+-- every table has its count
+few-tables : (Api.request .tables < 8) × (Api.response .tables < 8) × (Metadata.request .tables < 8) × (Metadata.response .tables < 8) × (Fetch.request .tables < 8) × (Fetch.response .tables < 8) × (Headers.request .rows .tables < 8) × (Headers.response .rows .tables < 8)
+few-tables = (omega arith, omega arith, omega arith, omega arith, omega arith, omega arith, omega arith, omega arith)
+
 -- ---- bodies
 
-pub named-right : (w : Bool) (m : Message) (v : ℕ) (s : List ℕ) (e : Refusal) → seen w m (pos v) s ≡ bad e → fieldless (e .number) ≡ false → Right w (shape m v) (noneYet m) 0 s (m .number) e (named m (pos v) s e)
+pub named-right : (w : Bool) (m : Message) (v : ℕ) (s : List ℕ) (e : Refusal) → seen w m (pos v) s ≡ bad e → fieldless (e .number) ≡ false → Right w (shape m v) noneYet 0 s (m .number) e (named m (pos v) s e)
 unfolding seen named
 named-right w m v s e d h =
     by-test (leb v (m .last))
@@ -58,12 +66,12 @@ named-right w m v s e d h =
     (λ b. in-a-field {A = Tables} e h 2 0 (no-field-in .1) (rw (a, b) at d)))
     (λ a. in-a-field {A = Tables} e h 1 0 (no-field-in .0) (rw a at d))
   where
-    over-end : (st : Tables) (n : ℕ) (q : Bool) → ended q (length s) (ok st n) ≡ bad e → Right w (shape m v) (noneYet m) 0 s (m .number) e (nameAt (m .number) (shape m v) (noneYet m) 0 s e)
+    over-end : (st : Tables) (n : ℕ) (q : Bool) → ended q (length s) (ok st n) ≡ bad e → Right w (shape m v) noneYet 0 s (m .number) e (nameAt (m .number) (shape m v) noneYet 0 s e)
     over-end st n false d = not-ok (sym d)
     over-end st n true d = by-test (ltb n (length s)) (λ i. in-a-field {A = Tables} e h 9 n (no-field-in .2) (rw i at d)) (λ i. not-ok (sym (rw i at d)))
 
-    inside : (c : Refusal) → readRows w append (shape m v) 0 (noRows m) 0 s ≡ bad c → _≡_ {A = Res Tables} (bad c) (bad e) → Right w (shape m v) (noneYet m) 0 s (m .number) e (nameAt (m .number) (shape m v) (noneYet m) 0 s e)
-    inside c i j = name-right w (shape m v) (noneYet m) 0 s (m .number) e 0 (noRows m) (i ∙ j) h
+    inside : (c : Refusal) → readRows w append (shape m v) 0 (noRows m) 0 s ≡ bad c → _≡_ {A = Res Tables} (bad c) (bad e) → Right w (shape m v) noneYet 0 s (m .number) e (nameAt (m .number) (shape m v) noneYet 0 s e)
+    inside c i j = name-right w (shape m v) noneYet 0 s (m .number) e 0 (noRows m) (i ∙ j) h
 
 -- ---- one number and one place, one row and one field
 
@@ -104,7 +112,7 @@ one-name-at m l c p s a b i j = record { same-row = at-row a ∙ (λ k. decides 
 
 pub one-name : (m : Message) (v : ℤ) (s : List ℕ) (a b : Refusal) → a .number ≡ b .number → a .place ≡ b .place → SameName (named m v s a) (named m v s b)
 unfolding named
-one-name m (pos v) s a b i j = one-name-at (m .number) (shape m v) (noneYet m) 0 s a b i j
+one-name m (pos v) s a b i j = one-name-at (m .number) (shape m v) noneYet 0 s a b i j
 one-name m (negsuc v) s a b i j = record { same-row = refl; same-field = refl }
 
 -- ---- frames
@@ -135,7 +143,7 @@ frame-named-size h (pos v) s e l = rw (lt-true (e .place) 4 l, or-true (fieldles
     or-true true = refl
     or-true false = refl
 
-pub frame-named-right : (h : Header) (v : ℕ) (s : List ℕ) (e : Refusal) → frameSeen h (pos v) s ≡ bad e → fieldless (e .number) ≡ false → 4 ≤ e .place → Right false (shape (h .rows) v) (noneYet (h .rows)) 4 (drop 4 (frameBytes s (frameSize s))) (h .rows .number) e (frameNamed h (pos v) s e)
+pub frame-named-right : (h : Header) (v : ℕ) (s : List ℕ) (e : Refusal) → frameSeen h (pos v) s ≡ bad e → fieldless (e .number) ≡ false → 4 ≤ e .place → Right false (shape (h .rows) v) noneYet 4 (drop 4 (frameBytes s (frameSize s))) (h .rows .number) e (frameNamed h (pos v) s e)
 unfolding frameSeen frameNamed readRows readBasic
 frame-named-right h v s e d f l =
     by-test (ltb v (h .first)) (λ a. in-a-field {A = Tables} e f 1 0 (no-field-in .0) (rw a at d))
@@ -145,7 +153,7 @@ frame-named-right h v s e d f l =
     R w = readRows false append (shape (withSize (h .rows)) v) 0 (noRows (h .rows)) 0 w
 
     Named : List ℕ → Type 0
-    Named u = Right false (shape (h .rows) v) (noneYet (h .rows)) 4 (drop 4 u) (h .rows .number) e (nameAt (h .rows .number) (shape (h .rows) v) (noneYet (h .rows)) 4 (drop 4 u) e)
+    Named u = Right false (shape (h .rows) v) noneYet 4 (drop 4 u) (h .rows .number) e (nameAt (h .rows .number) (shape (h .rows) v) noneYet 4 (drop 4 u) e)
 
     after-size : (u : List ℕ) → 4 ≤ length u → v ≤ h .rows .last → R u ≡ bad e → Named u
     after-size u t k i =
@@ -153,7 +161,7 @@ frame-named-right h v s e d f l =
         let r : readRows false append (field (number w32) (shape (h .rows) v)) 0 (noRows (h .rows)) 0 u ≡ bad e = sym (ap (λ (y : Shape). readRows false append y 0 (noRows (h .rows)) 0 u) (sized-shape (h .rows) v k)) ∙ i in
         let st = append 0 (cells (number w32) x) (noRows (h .rows)) in
         let y : more 4 (readRows false append (shape (h .rows) v) 0 st 4 (drop 4 u)) ≡ bad e = sym (then-ok (cell w32) _ 0 u x 4 (number-is u t)) ∙ r in
-        name-right false (shape (h .rows) v) (noneYet (h .rows)) 4 (drop 4 u) (h .rows .number) e 0 st (later (readRows false append (shape (h .rows) v) 0 st 4 (drop 4 u)) y) f
+        name-right false (shape (h .rows) v) noneYet 4 (drop 4 u) (h .rows .number) e 0 st (later (readRows false append (shape (h .rows) v) 0 st 4 (drop 4 u)) y) f
       where
         later : (o : Res Tables) → more 4 o ≡ bad e → o ≡ bad e
         later (ok st n) d = not-ok (sym d)

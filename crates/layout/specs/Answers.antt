@@ -89,13 +89,13 @@ judged m room (ok st n) = roomy st room n (needed (widths m) (drop 1 st) room)
 unfoldable pub readAnswer : Bool → Message → ℤ → Tables → List ℕ → Answer × Tables
 readAnswer w m v room s = judged m room (seen w m v s)
 
--- no rows yet of any table
-abbrev pub noneYet : Message → List ℕ
-noneYet m = replicate (suc (m .tables)) 0
+-- no rows yet of any table: no message has more than eight with its own row
+abbrev pub noneYet : List ℕ
+noneYet = replicate 8 0
 
 -- the refusal e of the message s at version v, with its name
 unfoldable pub named : Message → ℤ → List ℕ → Refusal → Refusal
-named m (pos v) s e = nameAt (m .number) (shape m v) (noneYet m) 0 s e
+named m (pos v) s e = nameAt (m .number) (shape m v) noneYet 0 s e
 named m (negsuc v) s e = naming (m .number) nowhere nowhere e
 
 unfoldable pub prefixRead : Message → ℤ → Tables → List ℕ → Answer × Tables
@@ -120,7 +120,7 @@ offered (suc e) bs = bad (because (suc e) 0)
 
 -- the refusal e of the row and tables st at version v, with its name
 unfoldable pub namedFault : Message → ℤ → List ℕ → Tables → Refusal → Refusal
-namedFault m (pos v) lent st e = nameFault (m .number) (shape m v) (noneYet m) (meant lent st (shape m v)) e
+namedFault m (pos v) lent st e = nameFault (m .number) (shape m v) noneYet (meant lent st (shape m v)) e
 namedFault m (negsuc v) lent st e = naming (m .number) nowhere nowhere e
 
 -- 13, the same at all versions

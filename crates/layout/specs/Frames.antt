@@ -60,7 +60,7 @@ frameBytes s (ok n z) = take z s
 
 -- the refusal e of the bytes s, with its name: the header's fields begin after the four bytes of the size
 unfoldable pub frameNamed : Header → ℤ → List ℕ → Refusal → Refusal
-frameNamed h (pos v) s e = nameAt (h .rows .number) (shape (h .rows) v) (noneYet (h .rows)) 4 (drop 4 (frameBytes s (frameSize s))) e
+frameNamed h (pos v) s e = nameAt (h .rows .number) (shape (h .rows) v) noneYet 4 (drop 4 (frameBytes s (frameSize s))) e
 frameNamed h (negsuc v) s e = naming (h .rows .number) nowhere nowhere e
 
 -- the answer with header number v to the bytes s, and the table of tags after it

@@ -1,6 +1,7 @@
 // The name of a refusal: the message, and the row and the field in which its place lies. One walk over the rows of a layout, for every message; it is asked for only where a call refuses.
 ghost use mathlib.Core.Path.{_≡_};
 ghost use lib.ListN.{drop};
+ghost use Rattle.layout.specs.Answers.{noneYet};
 ghost use Rattle.layout.specs.Names.{fieldless, nameAt};
 ghost use Rattle.layout.specs.Reading.{naming, nowhere};
 ghost use Rattle.layout_rows.specs.Shapes.{shapeOf};
@@ -76,17 +77,9 @@ fn is_fieldless(number: u8) -> bool
     number == BAD_SIZE
 }
 
-// The refusal e of a message whose fields begin at place p. `begun` has a zero for the own row and for each table.
-pub fn with_name(
-    e: Refusal,
-    message: u8,
-    msg: &[u8],
-    p: usize,
-    ask: Ask,
-    list: usize,
-    begun: &mut [u64],
-) -> Named
-    ensures { λ r. ⌜ ofNamed r ≡ nameAt message (shapeOf (ask .compact) (ask .version) 4 list) (now (begun .entry)) p (drop p (now (msg .entry))) (ofRefusal e) ⌝ }
+// The refusal e of a message whose fields begin at place p.
+pub fn with_name(e: Refusal, message: u8, msg: &[u8], p: usize, ask: Ask, list: usize) -> Named
+    ensures { λ r. ⌜ ofNamed r ≡ nameAt message (shapeOf (ask .compact) (ask .version) 4 list) noneYet p (drop p (now (msg .entry))) (ofRefusal e) ⌝ }
 {
     if is_fieldless(e.number) {
         return without_field(e, message);
@@ -94,7 +87,8 @@ pub fn with_name(
     if e.place < p {
         return without_field(e, message);
     }
-    match fields(msg, p, e.place, ask, LEVELS, list, MINUS_ONE, 0, begun) {
+    let mut begun = [0u64; 8];
+    match fields(msg, p, e.place, ask, LEVELS, list, MINUS_ONE, 0, &mut begun) {
         Sought::Found { row, field } => name(e, message, row, field),
         Sought::Past(_) => without_field(e, message),
     }

@@ -9,5 +9,5 @@ with-name-spec =
     tie.close
     (tie.spec
     (λ c κs. search needs) (λ c κs. search needs) (λ c. search (needs, no-field)) (λ c κs. search needs) (λ c. search (needs, before-fields))
-    (λ c κs. search needs) (λ c. search needs) (λ c κs. search needs) (λ c. search needs) (λ c κs. search needs) (λ c. search needs)
-    (λ c. search (needs, in-field)) (λ c. search needs) (λ c. search (needs, past-fields)))
+    (λ c. search needs) (λ c κs. search needs) (λ c. search needs) (λ c κs. search needs) (λ c. search needs) (λ c κs. search needs)
+    (λ c. search (needs, in-field)) (λ c. search (needs, past-fields)))
