@@ -1,7 +1,7 @@
 // Primitives at a place of a message, as walks over a body read them: each is read on the rest from the place on, and its answer counts from the message's start.
 ghost use mathlib.Core.Bool.{false};
 ghost use mathlib.Core.Path.{_≡_};
-ghost use Rattle.layout.specs.Primitives.{cell, compact, empty, fixed, flag, kept, never, plain, unsigned, w16, w32, w64, w8};
+ghost use Rattle.layout.specs.Primitives.{cell, compact, empty, fixed, flag, kept, never, plain, unsigned, w16, w32, w64};
 ghost use Rattle.layout.specs.Read.{byPlace, readBasic};
 ghost use Rattle.layout.specs.Rows.{blob, text};
 ghost use Rattle.primitives.specs.Answers.{ofFlag, ofNumber};
@@ -49,12 +49,6 @@ fn front(s: &[u8], p: usize, more: usize) -> &[u8]
         return &s[p..p + more + 1];
     }
     &s[..0]
-}
-
-pub fn int8_at(s: &[u8], p: usize) -> Number
-    ensures { λ r. ⌜ ofNumber r ≡ on (cell w8) (now (s .entry)) p ⌝ }
-{
-    moved(numbers::int8(front(s, p, 0)), p)
 }
 
 pub fn int16_at(s: &[u8], p: usize) -> Number

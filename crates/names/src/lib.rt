@@ -1,15 +1,10 @@
-// The name of a refusal: the message, and the row and the field in which its place lies. One walk over the rows of a layout, for every message; it is asked for only where a call refuses.
+// The name of a refusal: the message, and the row and the field in which its place lies. What every walk to that field shares; it is asked for only where a call refuses.
+ghost use mathlib.Core.List.{[]};
 ghost use mathlib.Core.Path.{_≡_};
-ghost use lib.ListN.{drop};
-ghost use Rattle.layout.specs.Answers.{noneYet};
-ghost use Rattle.layout.specs.Names.{fieldless, nameAt};
+ghost use Rattle.layout.specs.Names.{fieldless};
 ghost use Rattle.layout.specs.Reading.{naming, nowhere};
-ghost use Rattle.layout_rows.specs.Shapes.{shapeOf};
 ghost use Rattle.primitives.specs.Answers.{ofRefusal};
-ghost use Rattle.names.specs.Walks.{ofNamed};
-use crate::walk::Ask;
-use crate::walk::Sought;
-use crate::walk::fields;
+ghost use Rattle.names.specs.Walks.{Begins, lies, namedBy, ofNamed, ofSought};
 use primitives::BAD_SIZE;
 use primitives::BAD_TABLES;
 use primitives::BYTES_LEFT;
@@ -18,9 +13,10 @@ use primitives::NO_ROOM;
 use primitives::NO_VERSION;
 use primitives::Refusal;
 use primitives::TOO_LONG;
+use std::num::wrapping_add_u64;
 
-pub mod kinds;
-pub mod walk;
+pub mod fields;
+pub mod tags;
 
 // A refusal with its name. `row` and `field` are cells, -1 where there is none.
 pub struct Named {
@@ -31,9 +27,6 @@ pub struct Named {
     pub row: u64,
     pub field: u64,
 }
-
-// No layout has more levels of arrays.
-const LEVELS: u64 = 4;
 
 fn name(e: Refusal, message: u8, row: u64, field: u64) -> Named
     ensures { λ r. ⌜ ofNamed r ≡ naming message row field (ofRefusal e) ⌝ }
@@ -55,8 +48,36 @@ pub fn without_field(e: Refusal, message: u8) -> Named
     name(e, message, MINUS_ONE, MINUS_ONE)
 }
 
+// What a walk to the field in which a place lies comes to: its row and its position, or the place after all that was walked over.
+pub enum Sought {
+    Found { row: u64, field: u64 },
+    Past(usize),
+}
+
+// How many rows of each table a walk has begun is counted in a lent array. The next row of table t.
+pub fn begin(begun: &mut [u64], t: usize) -> u64
+    ensures { λ r. ⌜ Begins t (now (begun .entry)) (now (begun .exit)) r ⌝ }
+{
+    if t < begun.len() {
+        let row = begun[t];
+        begun[t] = wrapping_add_u64(row, 1);
+        return row;
+    }
+    0
+}
+
+// A refusal with what its walk came to.
+pub fn named_by(e: Refusal, message: u8, sought: Sought) -> Named
+    ensures { λ r. ⌜ ofNamed r ≡ namedBy message (ofRefusal e) (lies (ofSought [] sought)) ⌝ }
+{
+    match sought {
+        Sought::Found { row, field } => name(e, message, row, field),
+        Sought::Past(_) => without_field(e, message),
+    }
+}
+
 // Is it a number that is of no field?
-fn is_fieldless(number: u8) -> bool
+pub fn is_fieldless(number: u8) -> bool
     ensures { λ r. ⌜ r ≡ fieldless number ⌝ }
 {
     if number == NO_VERSION {
@@ -75,21 +96,4 @@ fn is_fieldless(number: u8) -> bool
         return true;
     }
     number == BAD_SIZE
-}
-
-// The refusal e of a message whose fields begin at place p.
-pub fn with_name(e: Refusal, message: u8, msg: &[u8], p: usize, ask: Ask, list: usize) -> Named
-    ensures { λ r. ⌜ ofNamed r ≡ nameAt message (shapeOf (ask .compact) (ask .version) 4 list) noneYet p (drop p (now (msg .entry))) (ofRefusal e) ⌝ }
-{
-    if is_fieldless(e.number) {
-        return without_field(e, message);
-    }
-    if e.place < p {
-        return without_field(e, message);
-    }
-    let mut begun = [0u64; 8];
-    match fields(msg, p, e.place, ask, LEVELS, list, MINUS_ONE, 0, &mut begun) {
-        Sought::Found { row, field } => name(e, message, row, field),
-        Sought::Past(_) => without_field(e, message),
-    }
 }
