@@ -6,3 +6,5 @@ pub mod Shapes
 -- what the walks over them say
 pub mod TopicWalks
 pub mod Walks
+-- the part of a partition that a walk to a field takes by itself
+pub mod Seek

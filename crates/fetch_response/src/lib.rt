@@ -6,6 +6,7 @@ use primitives::Refusal;
 mod aborted;
 pub mod body;
 pub mod marks;
+mod naming;
 mod partitions;
 pub mod reading;
 mod topics;

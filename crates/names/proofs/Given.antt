@@ -30,9 +30,14 @@ module _ (m : ℕ) (l : Shape) (k : List ℕ) (p : ℕ) (s : List ℕ) (e : Refu
     as-found (ok y n) = refl
     as-found (bad c) = refl
 
-    pub in-fields : p ≤ e .place → (x : Option (ℕ × ℕ)) → x ≡ lies (on (seek (e .place) l nowhere 0 k) s p) → namedBy m e x ≡ nameAt m l k p (drop p s) e
+    in-fields : p ≤ e .place → (x : Option (ℕ × ℕ)) → x ≡ lies (on (seek (e .place) l nowhere 0 k) s p) → namedBy m e x ≡ nameAt m l k p (drop p s) e
     unfolding on
     in-fields g x d = ap (namedBy m e) d ∙ as-found (seek (e .place) l nowhere 0 k p (drop p s)) ∙ by-tests false (rw (h, lt-false (e .place) p g))
+
+    -- what the walk leaves of its counts has no part in the name
+    pub by-walk : p ≤ e .place → (c : List ℕ) (o : Sought) → ofSought c o ≡ on (seek (e .place) l nowhere 0 k) s p → namedBy m e (lies (ofSought [] o)) ≡ nameAt m l k p (drop p s) e
+    by-walk g c (Sought.Found row f) d = in-fields g (lies (ofSought c (Sought.Found row f))) (ap lies d)
+    by-walk g c (Sought.Past n) d = in-fields g (lies (ofSought c (Sought.Past n))) (ap lies d)
 
 module _ (m : ℕ) (e r : Refusal) (x : Sought) where
   pub by-found : (row f : ℕ) → x ≡ Sought.Found row f → r ≡ naming m row f e → r ≡ namedBy m e (lies (ofSought [] x))

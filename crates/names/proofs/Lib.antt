@@ -6,3 +6,5 @@ pub mod Ends
 pub mod Ways
 -- the name that is given
 pub mod Given
+-- elements of numbers of one width
+pub mod Divided

@@ -26,15 +26,15 @@ use Rattle.names.specs.declared.fields.Passed.{Passed}
 -- ---- a reader at which the walk may stop
 
 module _ {A : Type 0} (q row f : ℕ) (r : Reader A) (s : List ℕ) (p : ℕ) where
-  stop-no : (c : Refusal) → bad c ≡ on r s p → bad (found row f) ≡ on (stop q row f r) s p
+  pub stop-no : (c : Refusal) → bad c ≡ on r s p → bad (found row f) ≡ on (stop q row f r) s p
   unfolding on stop
   stop-no c e = by-result (r p (drop p s)) (λ x n d. not-ok (rw d at e)) (λ b d. rw d)
 
-  stop-in : (x : A) (n : ℕ) → ok x n ≡ on r s p → q < n → bad (found row f) ≡ on (stop q row f r) s p
+  pub stop-in : (x : A) (n : ℕ) → ok x n ≡ on r s p → q < n → bad (found row f) ≡ on (stop q row f r) s p
   unfolding on stop
   stop-in x n e h = by-result (r p (drop p s)) (λ y m d. let g : ok x n ≡ ok y (p + m) = rw d at e in let i = same-end g in rw (d, lt-true q (p + m) (omega arith))) (λ b d. rw d)
 
-  stop-by : (x : A) (n : ℕ) → ok x n ≡ on r s p → n ≤ q → ok x n ≡ on (stop q row f r) s p
+  pub stop-by : (x : A) (n : ℕ) → ok x n ≡ on r s p → n ≤ q → ok x n ≡ on (stop q row f r) s p
   unfolding on stop
   stop-by x n e h = by-result (r p (drop p s)) (λ y m d. let g : ok x n ≡ ok y (p + m) = rw d at e in let i = same-end g in rw (d, lt-false q (p + m) (omega arith)) g) (λ b d. not-ok (sym (rw d at e)))
 
@@ -93,6 +93,23 @@ module _ (q row f : ℕ) (c s : List ℕ) (p : ℕ) where
         let v : _≡_ {A = ℕ × ℕ} (k, n) (u - 1, j) = cc in
         then-took (stop q row f head) (λ o. rest (o - 1)) s p (stop-by q row f head s p u j (sym d) (of-ge q j h)) (g ∙ (λ w. on (rest (v w .0)) s (v w .1)))))
         (λ b d. none-some {x = (k, n)} (sym (sym (ap ofCounted e) ∙ m ∙ sym (ap (countUpTo q) (then-no head (λ o. give (o - 1)) s p (sym d))))))
+
+    -- the walk over the elements, and what follows the array
+    module _ (k n : ℕ) (e : x ≡ Counted.After k n) (c′ : List ℕ) (o : Sought) (w : ofSought c′ o ≡ on (loop k (element q i t) c) s n) where
+      pub array-found : (a b : ℕ) → o ≡ Sought.Found a b → bad (found a b) ≡ on (seek q (array z t i r) row f c) s p
+      array-found a b d = array-goes k n e _ (then-no (loop k (element q i t) c) _ s n (sym (ap (ofSought c′) d) ∙ w))
+
+      pub array-past : (u : ℕ) → o ≡ Sought.Past u → (y : Res (List ℕ)) → y ≡ on (seek q r row (suc f) c′) s u → y ≡ on (seek q (array z t i r) row f c) s p
+      array-past u d y g = array-goes k n e y (then-took (loop k (element q i t) c) _ s n (sym (ap (ofSought c′) d) ∙ w) g)
+
+-- an array that ends its row
+module _ (q row f : ℕ) (c s : List ℕ) (p : ℕ) (z : Size) (t : ℕ) (i : Shape) (x : Counted) (m : ofCounted x ≡ countUpTo q (on (itemCount false z) s p)) (k n : ℕ) (e : x ≡ Counted.After k n) where
+  pub array-last : (y : Res (List ℕ)) → y ≡ on (loop k (element q i t) c) s n → y ≡ on (seek q (array z t i end) row f c) s p
+  array-last y w =
+      array-goes q row f c s p z t i end x m k n e y
+      (by-result (on (loop k (element q i t) c) s n)
+      (λ d u g. w ∙ g ∙ then-took (loop k (element q i t) c) (λ d. seek q end row (suc f) d) s n (sym g) (walk-end q row (suc f) d s u))
+      (λ b g. w ∙ g ∙ then-no (loop k (element q i t) c) (λ d. seek q end row (suc f) d) s n (sym g)))
 
 -- ---- rows that were begun
 

@@ -16,6 +16,7 @@ use primitives::TOO_LONG;
 use std::num::wrapping_add_u64;
 
 pub mod fields;
+pub mod runs;
 pub mod tags;
 
 // A refusal with its name. `row` and `field` are cells, -1 where there is none.
