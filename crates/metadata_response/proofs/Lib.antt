@@ -16,3 +16,5 @@ pub mod Replies
 pub mod Unique
 -- what stands behind the used bytes, and versions of one layout
 pub mod Local
+-- the walk to a refused field
+pub mod Sought

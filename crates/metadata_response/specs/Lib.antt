@@ -10,3 +10,5 @@ pub mod TopicWalks
 pub mod Walks
 -- numbers whose bytes are there, and marks
 pub mod Numbers
+-- the parts that a walk to a field takes by themselves
+pub mod Seek

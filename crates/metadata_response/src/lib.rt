@@ -7,6 +7,7 @@ use primitives::Refusal;
 pub mod body;
 pub mod brokers;
 pub mod marks;
+mod naming;
 mod nodes;
 mod numbers;
 mod partitions;
