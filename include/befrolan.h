@@ -21,9 +21,6 @@
  * Texts and data are parts: a start and a length, counted in bytes from the front of the message or frame that was read,
  * or of `lent`, the bytes beside what is written.
  *
- * Refusals. A refusal has six numbers: why it was refused, the place, what is needed, and the message, row and field in which
- * that is. Every call that can refuse answers with a struct that begins with these six.
- *
  * What the caller owes. A call judges every number that it is given, and every byte and cell; it cannot judge these, and
  * promises nothing where one of them is not so:
  * - A slice whose length is not 0 has a pointer that is not null, to at least as many elements as the length says.
@@ -44,14 +41,6 @@
 extern "C" {
 #endif
 
-/* The form of the interface. It changes where a struct or a function does, and then every caller has to be compiled anew with
- * the header that belongs to the library: the structs are returned by value, and the library does not know which header a caller
- * was compiled with.
- * 1: a refusal had number, place and need alone.
- * 2: message, row and field came, after need. The structs have grown by these three numbers; the functions and their parameters
- *    are the same. */
-#define BEFROLAN_INTERFACE 2
-
 /* ---- refusals: `number` of an answer. The place is a byte of the message or of the frame; on writing it is always 0. */
 
 enum {
@@ -67,7 +56,7 @@ enum {
                                        cut: what is before that in the text is well-formed */
     BEFROLAN_NULL_ITEMS = 8,        /* null items in a whole read. The count's start */
     BEFROLAN_BYTES_LEFT = 9,        /* bytes left over in a whole read. The first of them */
-    BEFROLAN_NO_ROOM = 10,          /* a table or the output is too small; `need` says the rows or bytes needed. Place 0 */
+    BEFROLAN_NO_ROOM = 10,          /* a table or the output is too small; `need` tells the rows or bytes needed. Place 0 */
     BEFROLAN_TOO_WIDE = 11,         /* a number that its type cannot hold; a STRING or NULLABLE_STRING to write over 32,767
                                        bytes; an isolation level other than 0 or 1. Its start */
     BEFROLAN_GROUP_TOO_WIDE = 12,   /* kept from the ported code; no call gives it */
@@ -78,35 +67,6 @@ enum {
 
 /* No message and no written body has more bytes, and no frame more without its size: with it, 4 more. */
 #define BEFROLAN_MOST 1048576
-
-/* ---- what a refusal is about: `message`, `row` and `field` of an answer */
-
-/* The message is that of the call, in every refusal. */
-enum {
-    BEFROLAN_MESSAGE_NONE = 0,                  /* a primitive, or tagged fields, by themselves */
-    BEFROLAN_MESSAGE_API_VERSIONS_REQUEST = 1,
-    BEFROLAN_MESSAGE_API_VERSIONS_RESPONSE = 2,
-    BEFROLAN_MESSAGE_METADATA_REQUEST = 3,
-    BEFROLAN_MESSAGE_METADATA_RESPONSE = 4,     /* of the lookup of a host too */
-    BEFROLAN_MESSAGE_FETCH_REQUEST = 5,
-    BEFROLAN_MESSAGE_FETCH_RESPONSE = 6,
-    BEFROLAN_MESSAGE_REQUEST_HEADER = 7,        /* of a frame; the size before it too */
-    BEFROLAN_MESSAGE_RESPONSE_HEADER = 8
-};
-
-/* Rows and fields. The field is, on reading, the one in which the place is; on writing, the first in field order that cannot be
- * written.
- * - `field` is the field's position in its row, from 0, among the fields that the version has. A field that the version lacks is
- *   not counted. docs/RULES.md lists the fields, in sections 4 and 14.
- * - `row` is the number of the row in its table, from 0, counted over the whole body: the first partition of the second topic
- *   comes after all partitions of the first. A row that was begun counts. The body's own fields, and a header's, have row -1.
- * - A count is part of its array's field, in the row that the array belongs to.
- * - In the row of a tag the tag is field 0, and its length with the data is field 1.
- * - Each node of an array of replicas is a row with one field.
- * Both are BEFROLAN_NOWHERE where no field is at fault: for BEFROLAN_NO_VERSION, BEFROLAN_TOO_LONG, BEFROLAN_BYTES_LEFT,
- * BEFROLAN_NO_ROOM, BEFROLAN_BAD_TABLES and BEFROLAN_BAD_SIZE; for BEFROLAN_BYTES_END at a frame's size, which is at place 0; and
- * for everything that a primitive, or tagged fields, by themselves are refused for. */
-#define BEFROLAN_NOWHERE (-1)
 
 /* ---- rows of tables */
 
@@ -165,23 +125,23 @@ enum {
 #define BEFROLAN_ABSENT 0
 #define BEFROLAN_PRESENT 2
 
-/* ---- answers. Where `number` is 0 the call accepted, and `place`, `need`, `message`, `row` and `field` are 0. Else it refused,
- * these five say more, and every other number is 0. */
+/* ---- answers. Where `number` is 0 the call accepted, and `place` and `need` are 0. Else it refused, `place` and
+ * `need` say more, and every other number is 0. */
 
 /* Of a writer: `used` bytes were written, at the front of the output. */
 typedef struct {
-    int64_t number, place, need, message, row, field, used;
+    int64_t number, place, need, used;
 } befrolan_numbers;
 
 /* Of tagged fields that were read: the bytes used, and how many tags there are. */
 typedef struct {
-    int64_t number, place, need, message, row, field, used;
+    int64_t number, place, need, used;
     int64_t tags;
 } befrolan_tags_numbers;
 
 /* Of a primitive that was read. */
 typedef struct {
-    int64_t number, place, need, message, row, field, used;
+    int64_t number, place, need, used;
     int64_t form;   /* BEFROLAN_VALUE or BEFROLAN_NULL */
     int64_t value;  /* the number, the count, or the start of the part; a BOOLEAN is 0 or 1 */
     int64_t length; /* of a part; else 0 */
@@ -192,7 +152,7 @@ typedef struct {
 
 /* Of an ApiVersions response that was read. */
 typedef struct {
-    int64_t number, place, need, message, row, field, used;
+    int64_t number, place, need, used;
     int64_t error;
     int64_t items;         /* how many; null items of a prefix read are none */
     int64_t throttle_kind; /* BEFROLAN_ABSENT or BEFROLAN_PRESENT */
@@ -202,7 +162,7 @@ typedef struct {
 
 /* Of a Metadata response that was read. What is absent or null has 0 behind its kind. */
 typedef struct {
-    int64_t number, place, need, message, row, field, used;
+    int64_t number, place, need, used;
     int64_t throttle_kind;   /* BEFROLAN_ABSENT or BEFROLAN_PRESENT */
     int64_t throttle;
     int64_t brokers;         /* how many; a null array is none */
@@ -215,7 +175,7 @@ typedef struct {
 
 /* Of a Fetch response that was read. */
 typedef struct {
-    int64_t number, place, need, message, row, field, used;
+    int64_t number, place, need, used;
     int64_t throttle_kind; /* BEFROLAN_ABSENT or BEFROLAN_PRESENT */
     int64_t throttle;
     int64_t topics;        /* how many; a null array is none */
@@ -223,14 +183,14 @@ typedef struct {
 
 /* Of the lookup of a host. `found` is 1 where a broker has the node, also where its host is empty, and 0 where none has. */
 typedef struct {
-    int64_t number, place, need, message, row, field;
+    int64_t number, place, need;
     int64_t found;
     int64_t start, length; /* of the host, a part of the message */
 } befrolan_host_numbers;
 
 /* Of an ApiVersions request that was read: the client's name and its version, each with kind, start and length. */
 typedef struct {
-    int64_t number, place, need, message, row, field, used;
+    int64_t number, place, need, used;
     int64_t name_kind, name_start, name_length;
     int64_t version_kind, version_start, version_length;
     int64_t tags;
@@ -239,7 +199,7 @@ typedef struct {
 /* Of a frame with a request header that was read. `used` is the whole frame, its size and the 4 bytes of that: there the next
  * one starts. Starts, also those of the tags' data, count from the frame's first byte. */
 typedef struct {
-    int64_t number, place, need, message, row, field, used;
+    int64_t number, place, need, used;
     int64_t request_api_key, request_api_version, correlation_id;
     int64_t client_id_kind;          /* of the client's name: BEFROLAN_NULL or BEFROLAN_PRESENT */
     int64_t client_id_start, client_id_length;
@@ -249,7 +209,7 @@ typedef struct {
 
 /* Of a frame with a response header that was read. */
 typedef struct {
-    int64_t number, place, need, message, row, field, used;
+    int64_t number, place, need, used;
     int64_t correlation_id;
     int64_t tags;
     int64_t body_start, body_length;

@@ -1,7 +1,6 @@
 /* Reads the ApiVersions response that a broker sent at version 0, agrees on versions, and writes the response back. Then
  * asks for a topic at the version agreed on, in a frame as it is sent, reads the answer out of the frame that it comes in, and
- * finds the host of the node that leads its partition. An answer that is cut is refused, with the field in which it ends. Last,
- * asks for what is in that partition, and shows its records.
+ * finds the host of the node that leads its partition. Last, asks for what stands in that partition, and shows its records.
  * Exits with 1 where anything is not as it should be.
  *
  *     tools/staticlib
@@ -35,13 +34,6 @@ static const uint8_t fetched[48] = {
     0, 0, 0, 0, 0, 0, 0, 1, 0, 1, 't', 0, 0, 0, 1,
     0, 0, 0, 0, 0, 0, 0, 0, 0, 0, 0, 0, 0, 9, 0, 0, 0, 0, 0, 0, 0, 9, 0, 0, 0, 0, 0, 0, 0, 3, 'a', 'b', 'c'};
 
-/* what a refusal says: why, at which byte, and in which field of which row; both are BEFROLAN_NOWHERE where it is in none */
-static void say_refused(int64_t number, int64_t place, int64_t message, int64_t row, int64_t field)
-{
-    printf("refused with %lld at %lld: message %lld, row %lld, field %lld\n", (long long)number, (long long)place,
-           (long long)message, (long long)row, (long long)field);
-}
-
 /* the rows agreed on; 0 where anything is wrong */
 static int agreed(int64_t rows[9])
 {
@@ -51,7 +43,7 @@ static int agreed(int64_t rows[9])
     befrolan_response_numbers r =
         befrolan_read_api_versions_response(offer, sizeof offer, 0, 1, items, 16, tags, 12);
     if (r.number != BEFROLAN_ACCEPTED) {
-        say_refused(r.number, r.place, r.message, r.row, r.field);
+        printf("refused with %lld at %lld\n", (long long)r.number, (long long)r.place);
         return 0;
     }
     for (int64_t i = 0; i < r.items; i++)
@@ -134,7 +126,7 @@ static int found(int64_t version)
     befrolan_metadata_numbers r = befrolan_read_metadata_response(answer, length, version, brokers, 28, topics, 20,
                                                                   partitions, 20, replicas, 8, in_sync, 8);
     if (r.number != BEFROLAN_ACCEPTED) {
-        say_refused(r.number, r.place, r.message, r.row, r.field);
+        printf("refused with %lld at %lld\n", (long long)r.number, (long long)r.place);
         return 0;
     }
     if (r.used != 61 || r.brokers != 1 || r.topics != 1 || topics[4] != 1 || partitions[2] != 1)
@@ -145,21 +137,6 @@ static int found(int64_t version)
     printf("partition %lld is led by node %lld, at %.*s\n", (long long)partitions[1], (long long)partitions[2],
            (int)h.length, (const char *)answer + h.start);
     return 1;
-}
-
-/* The same answer without its last byte is refused. The number of replicas in sync is cut: the partition's field 4, after error,
- * index, leader and replicas. The partition is the first of the body, so its row is 0. */
-static int cut(int64_t version)
-{
-    size_t length;
-    const uint8_t *answer = unframed(version, &length);
-    if (answer == NULL)
-        return 0;
-    befrolan_host_numbers h = befrolan_find_host(answer, length - 1, version, 1);
-    printf("a byte less: ");
-    say_refused(h.number, h.place, h.message, h.row, h.field);
-    return h.number == BEFROLAN_BYTES_END && h.place == 57 && h.message == BEFROLAN_MESSAGE_METADATA_RESPONSE && h.row == 0
-           && h.field == 4;
 }
 
 /* asks for partition 0 of the topic "t" from offset 7 on: as a client, within half a second, at least a byte; max bytes
@@ -188,7 +165,7 @@ static int shown(int64_t version)
     befrolan_fetch_numbers r =
         befrolan_read_fetch_response(fetched, sizeof fetched, version, topics, 12, partitions, 28, aborted, 8);
     if (r.number != BEFROLAN_ACCEPTED) {
-        say_refused(r.number, r.place, r.message, r.row, r.field);
+        printf("refused with %lld at %lld\n", (long long)r.number, (long long)r.place);
         return 0;
     }
     static const int64_t row[BEFROLAN_FETCH_PARTITION_CELLS] = {0, 0, 9, 9, 0, 45, 3};
@@ -205,5 +182,5 @@ int main(void)
     if (!agreed(rows) || rows[4] != 1 || rows[7] != 4)
         return 1;
     int64_t metadata = rows[4], fetch = rows[7];
-    return asked(metadata) && found(metadata) && cut(metadata) && wanted(fetch) && shown(fetch) ? 0 : 1;
+    return asked(metadata) && found(metadata) && wanted(fetch) && shown(fetch) ? 0 : 1;
 }

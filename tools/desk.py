@@ -1,6 +1,6 @@
 """The night desk's command: asks the proved calls what a body or a frame says, through the C interface, and puts Kafka's names to the numbers.
 
-Everything that is judged, is judged there. Here arguments are parsed, the bytes of the body found, names looked up, and lines laid out. The path of a refused field is worked out here too (tools/guide.py), and shown where it has the row and field that the library says."""
+Everything that is judged, is judged there. Here arguments are parsed, the bytes of the body found, names looked up, and lines laid out."""
 import itertools
 import json
 import pathlib
@@ -8,9 +8,6 @@ import re
 import shutil
 import subprocess
 import sys
-
-sys.dont_write_bytecode = True
-import guide
 
 ROOT = pathlib.Path(__file__).resolve().parent.parent
 USAGE = """usage: ./befrolan read MESSAGE VERSION [FILE]   a body, read from its front as the Rust reads it
@@ -292,10 +289,9 @@ def around(body, place):
     """The bytes around a place, sixteen to a line, with a mark under it."""
     first = max(place // 16 - 1, 0) * 16
     for at in range(first, min(first + 48, len(body) + 1), 16):
-        front = f"  {at:6}  "
-        yield f"{front}{body[at:at + 16].hex(' ')}".rstrip()
+        yield f"  {at:6}  {body[at:at + 16].hex(' ')}".rstrip()
         if at <= place < at + 16:
-            yield " " * len(front) + "   " * (place - at) + "^^"
+            yield "          " + "   " * (place - at) + "^^"
 
 
 # ---- answers
@@ -324,36 +320,26 @@ class Given:
         return [f"body: {len(self.body)} bytes at {self.start}", *rest]
 
 
-def refusal(words, version, given):
-    """What is said of a refusal. Row and field are -1 where it has none, and then there is no path."""
-    n, place, need, message, its_row, field = map(int, words[1:])
-    return row(number=n, means=MEANS[str(n)], place=place + (0 if n in PLACELESS else given.start), need=need,
-               message=row(number=message, name=guide.MESSAGES[message].name), row=its_row, field=field,
-               path=guide.path(message, version, given.body, place, its_row, field))
+def refusal(words, start):
+    _, n, place, need = words
+    return row(number=int(n), means=MEANS[n], place=int(place) + (0 if int(n) in PLACELESS else start), need=int(need))
 
 
-def place_in_words(said, end):
-    """Where it is, to be read aloud. What the field is comes first."""
-    if said["number"] in PLACELESS:
-        return "place 0: it is about the message as a whole"
-    name = said["message"]["name"]
-    field = said["path"] or f"row {said['row']}, field {said['field']}"
-    field = f"{field} of {'an' if name.startswith('A') else 'a'} {name}, " if said["field"] >= 0 else ""
-    return f"{field}place {said['place']:,} of {end:,} bytes" + (", which is the end of the message" if said["place"] == end else "")
-
-
-def refused(what, version, given, words, json_wanted, asking, more=()):
+def refused(what, given, words, json_wanted, asking, more=()):
     """`asking` makes the case of the same question about another body."""
-    said = refusal(words, version, given)
+    said = refusal(words, given.start)
     if said["number"] == NOT_TEXT:
         said["letter"] = wrong_letter(given, int(words[2]), asking)
     if json_wanted:
         print(json.dumps(row(message=what, accepted=False, **given.in_json(), refusal=said)))
         return 1
-    print(f"{what}: refused with {said['number']}: {said['means']}")
-    print(place_in_words(said, len(given.every_byte)))
-    if said["number"] not in PLACELESS:
-        print("\n".join(around(given.every_byte, said["place"])))
+    n, place, bytes_given = said["number"], said["place"], given.every_byte
+    print(f"{what}: refused with {n}: {said['means']}")
+    if n in PLACELESS:
+        print("place 0: it is about the message as a whole")
+    else:
+        print(f"place {place} of {len(bytes_given)} bytes" + (", which is the end of the message" if place == len(bytes_given) else ""))
+        print("\n".join(around(bytes_given, place)))
     if "letter" in said:
         print(said["letter"])
     for line in [*given.in_lines(), *more]:
@@ -421,8 +407,7 @@ def read(message, version, given, json_wanted, whole=False):
     words, tables = ask(call, version, given.body)
     if words[0] != "ok":
         hint = message == "api-versions" and not json_wanted
-        return refused(what, version, given, words, json_wanted, lambda other: wording(call, version, other),
-                       other_layouts(given.body, version, words) if hint else ())
+        return refused(what, given, words, json_wanted, lambda other: wording(call, version, other), other_layouts(given.body, version, words) if hint else ())
     says = {"api-versions": response, "api-versions-request": request, "metadata": metadata}.get(message, lambda *rest: fetch(version, given.start, *rest))
     return accepted(what, given, int(words[1]), says(given.body, words[2:], tables), json_wanted)
 
@@ -431,8 +416,7 @@ def agree(version, given, json_wanted):
     what = f"api-versions version {version}, read whole"
     words, tables = ask(WHOLE, version, given.body)
     if words[0] != "ok":
-        return refused(what, version, given, words, json_wanted, lambda other: wording(WHOLE, version, other),
-                       () if json_wanted else other_layouts(given.body, version, words))
+        return refused(what, given, words, json_wanted, lambda other: wording(WHOLE, version, other), () if json_wanted else other_layouts(given.body, version, words))
     _, used, _, items, *_ = words
     return accepted(what, given, int(used), row(agreed=agreed(cut(tables[0], int(items)))), json_wanted)
 
@@ -442,7 +426,7 @@ def host(node, version, given, json_wanted):
     asking = lambda other: f"host {version} {node} {other[:MOST + 1].hex() or '-'}"
     words = answering([asking(given.body)])[0]
     if words[0] != "ok":
-        return refused(what, version, given, words, json_wanted, asking)
+        return refused(what, given, words, json_wanted, asking)
     found = None if words[1] == "none" else text(words[1])
     if json_wanted:
         print(json.dumps(row(message=what, accepted=True, **given.in_json(), host=found)))
@@ -467,7 +451,7 @@ def open_frame(side, number, data, json_wanted):
     if words[0] != "ok":
         asking = lambda other: wording(FRAMES[side], number, other, MOST + SIZE)
         more = [size_in_words(data)] if int(words[1]) in (BYTES_END, BAD_SIZE) else ()
-        return refused(f"{side} frame, header {number}", number, Given(data), words, json_wanted, asking, more)
+        return refused(f"{side} frame, header {number}", Given(data), words, json_wanted, asking, more)
     _, used, *own, body = words
     start, _, _ = body.partition(":")
     frame = data[: int(used)]

@@ -1,7 +1,6 @@
 //! ApiVersions, versions 0 to 3, and agreement on versions.
 
 use crate::raw;
-use crate::refusal::said;
 use crate::rows::{part, text, told, Cell, Rows, Table, NO_COUNT, PRESENT};
 use crate::Refusal;
 
@@ -175,7 +174,7 @@ pub fn read_api_versions_response<'a>(
         }
     };
     if r.number != 0 {
-        return Err(Refusal::reading(said!(r), msg, version));
+        return Err(Refusal::of(r.number, r.place, r.need));
     }
     let items = tables.items.filled(0, r.items as usize);
     let tagged: usize = (0..items.len()).filter_map(|i| items.get(i)).map(|row| told(row[3])).sum();
@@ -236,7 +235,6 @@ impl ApiVersionsAnswer {
     /// # Errors
     /// 1 for a version that there is not, 2 where the body would be too long, 10 where `out` is too small.
     pub fn write(&self, out: &mut [u8], version: impl Into<i64>) -> Result<usize, Refusal> {
-        let version = version.into();
         let (kind, throttle) = self.throttle_time_ms.map_or((0, 0), |n| (PRESENT, n.into()));
         let body: [Cell; 5] =
             [self.error.into(), self.items.len() as Cell / 4, kind, throttle, self.own.len() as Cell / 3];
@@ -246,7 +244,7 @@ impl ApiVersionsAnswer {
             raw::befrolan_write_api_versions_response(
                 out.as_mut_ptr(),
                 out.len(),
-                version,
+                version.into(),
                 self.data.as_ptr(),
                 self.data.len(),
                 body.as_ptr(),
@@ -256,7 +254,7 @@ impl ApiVersionsAnswer {
                 tags.len(),
             )
         };
-        crate::wrote(r, [&body, &self.items, &tags], version)
+        crate::wrote(r)
     }
 }
 
@@ -270,7 +268,6 @@ pub fn write_api_versions_request(
     client: &str,
     software: &str,
 ) -> Result<usize, Refusal> {
-    let version = version.into();
     let lent = [client.as_bytes(), software.as_bytes()].concat();
     let (n, m) = (client.len() as Cell, software.len() as Cell);
     let body: [Cell; 7] = [PRESENT, 0, n, PRESENT, n, m, 0];
@@ -279,7 +276,7 @@ pub fn write_api_versions_request(
         raw::befrolan_write_api_versions_request(
             out.as_mut_ptr(),
             out.len(),
-            version,
+            version.into(),
             lent.as_ptr(),
             lent.len(),
             body.as_ptr(),
@@ -287,7 +284,7 @@ pub fn write_api_versions_request(
             0,
         )
     };
-    crate::wrote(r, [&body, &[], &[]], version)
+    crate::wrote(r)
 }
 
 /// A request that was read: what a client says of itself, from version 3 on.
@@ -331,7 +328,7 @@ pub fn read_api_versions_request<'a>(
         tables.tags.grow(r.need as usize);
     };
     if r.number != 0 {
-        return Err(Refusal::reading(said!(r), msg, version));
+        return Err(Refusal::of(r.number, r.place, r.need));
     }
     let shown = |kind, start, length| (kind == PRESENT).then(|| text(msg, start, length));
     Ok(ApiVersionsRequest {

@@ -1,7 +1,6 @@
 //! Fetch, versions 0 to 4.
 
 use crate::raw;
-use crate::refusal::said;
 use crate::rows::{part, text, told, Cell, Rows, Table, PRESENT};
 use crate::Refusal;
 
@@ -171,7 +170,7 @@ pub fn read_fetch_response<'a>(
         }
     };
     if r.number != 0 {
-        return Err(Refusal::reading(said!(r), msg, version));
+        return Err(Refusal::of(r.number, r.place, r.need));
     }
     let t = &*tables;
     let topics = t.topics.filled(0, r.topics as usize);
@@ -254,7 +253,6 @@ impl FetchRequest {
     /// # Errors
     /// The refusal of the rules; [`Refusal::NO_ROOM`] with the bytes needed where `out` is too small.
     pub fn write(&self, out: &mut [u8], version: impl Into<i64>) -> Result<usize, Refusal> {
-        let version = version.into();
         let unset = |x: Option<Cell>| x.map_or((0, 0), |n| (PRESENT, n));
         let (max_kind, max) = unset(self.max_bytes.map(Cell::from));
         let (level_kind, level) = unset(self.isolation_level.map(Cell::from));
@@ -274,7 +272,7 @@ impl FetchRequest {
             raw::befrolan_write_fetch_request(
                 out.as_mut_ptr(),
                 out.len(),
-                version,
+                version.into(),
                 self.names.as_ptr(),
                 self.names.len(),
                 body.as_ptr(),
@@ -284,6 +282,6 @@ impl FetchRequest {
                 self.partitions.len(),
             )
         };
-        crate::wrote(r, [&body, &self.topics, &self.partitions], version)
+        crate::wrote(r)
     }
 }

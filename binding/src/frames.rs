@@ -2,7 +2,6 @@
 
 use crate::api_versions::{Tag, Tags};
 use crate::raw;
-use crate::refusal::said;
 use crate::rows::{part, text, told, Cell, Table, NO_COUNT, NULL, PRESENT};
 use crate::Refusal;
 use std::borrow::Cow;
@@ -118,7 +117,7 @@ impl HeaderTables {
             match r.number {
                 0 => return Ok(r),
                 n if n == i64::from(Refusal::NO_ROOM) => self.tags.grow(r.need as usize),
-                _ => return Err(Refusal::reading(said!(r), msg, number)),
+                _ => return Err(Refusal::of(r.number, r.place, r.need)),
             }
         }
     }
@@ -131,7 +130,7 @@ impl HeaderTables {
             match r.number {
                 0 => return Ok(r),
                 n if n == i64::from(Refusal::NO_ROOM) => self.tags.grow(r.need as usize),
-                _ => return Err(Refusal::reading(said!(r), msg, number)),
+                _ => return Err(Refusal::of(r.number, r.place, r.need)),
             }
         }
     }
@@ -252,7 +251,7 @@ impl RequestHeader<'_> {
             length,
             self.tags.len() as Cell,
         ];
-        let r = raw::befrolan_write_request_frame(
+        crate::wrote(raw::befrolan_write_request_frame(
             out,
             room,
             number,
@@ -263,8 +262,7 @@ impl RequestHeader<'_> {
             parts.rows.len(),
             body.as_ptr(),
             body.len(),
-        );
-        crate::wrote(r, [&row, &parts.rows, &[]], number)
+        ))
     }
 }
 
@@ -280,7 +278,7 @@ impl ResponseHeader<'_> {
         body: &[u8],
     ) -> Result<usize, Refusal> {
         let row: [Cell; 2] = [self.correlation_id.into(), self.tags.len() as Cell];
-        let r = raw::befrolan_write_response_frame(
+        crate::wrote(raw::befrolan_write_response_frame(
             out,
             room,
             number,
@@ -291,8 +289,7 @@ impl ResponseHeader<'_> {
             parts.rows.len(),
             body.as_ptr(),
             body.len(),
-        );
-        crate::wrote(r, [&row, &parts.rows, &[]], number)
+        ))
     }
 }
 

@@ -2,12 +2,7 @@
 //!
 //! Befrolan reads and writes the ApiVersions, Metadata and Fetch bodies of Kafka, and the frames that they are sent in. Each of
 //! its functions is proved to meet its contract; this crate is a safe wrapper over its C interface (include/befrolan.h), with no
-//! dependencies.
-//!
-//! A [`Refusal`] has a number, a place, and the field that it is about: its message, its row, its position there, and its path in
-//! the names of Kafka's guide, as in `3 at byte 4118, in topics[3].partitions[0].leader_id of a Metadata response: the message
-//! ends inside a field`. What each number means is in docs/RULES.md. The path is worked out in this crate, for display alone; all
-//! else the proved code says.
+//! dependencies. What the numbers of a refusal mean is in docs/RULES.md.
 //!
 //! Nothing is copied on reading: rows go to tables that the caller keeps and lends, which grow where a message needs more,
 //! and texts, data and records are borrowed from the message.
@@ -85,9 +80,7 @@
 mod api_versions;
 mod fetch;
 mod frames;
-mod guide;
 mod metadata;
-mod path;
 mod raw;
 mod refusal;
 mod rows;
@@ -106,16 +99,12 @@ pub use frames::{
     response_header_number, write_request_frame, write_response_frame, HeaderTables, RequestFrame, RequestHeader,
     ResponseFrame, ResponseHeader,
 };
-pub use guide::Message;
 pub use metadata::{
     find_host, read_metadata_response, write_metadata_request, Broker, Brokers, Field, MetadataResponse, MetadataTables,
     Nodes, Partition, Partitions, Topic, Topics,
 };
-pub use path::{FieldPath, Step};
 pub use refusal::Refusal;
 pub use stream::{FrameReader, StreamError};
-
-use refusal::said;
 
 /// How many bytes at the front of a text are well-formed UTF-8: whole characters, up to the first that is ill-formed or cut.
 /// Befrolan takes it as text where that is all of it. `str::from_utf8` of the standard library says the same.
@@ -129,10 +118,9 @@ pub fn well_formed(text: &[u8]) -> usize {
     unsafe { raw::befrolan_well_formed(text.as_ptr(), text.len()) as usize }
 }
 
-/// The answer to a write at this version, which was lent a body row and tables.
-fn wrote(r: raw::Numbers, tables: [&[rows::Cell]; 3], version: i64) -> Result<usize, Refusal> {
+fn wrote(r: raw::Numbers) -> Result<usize, Refusal> {
     if r.number != 0 {
-        return Err(Refusal::writing(said!(r), tables, version));
+        return Err(Refusal::of(r.number, r.place, r.need));
     }
     Ok(r.used as usize)
 }

@@ -1,7 +1,6 @@
 //! Metadata, versions 0 to 4, and the lookup of a host.
 
 use crate::raw;
-use crate::refusal::said;
 use crate::rows::{text, told, Cell, Rows, Table, NO_COUNT, NULL, PRESENT};
 use crate::Refusal;
 
@@ -242,7 +241,7 @@ pub fn read_metadata_response<'a>(
         t.grow(r.need as usize);
     };
     if r.number != 0 {
-        return Err(Refusal::reading(said!(r), msg, version));
+        return Err(Refusal::of(r.number, r.place, r.need));
     }
     let t = &*tables;
     let topics = t.topics.filled(0, r.topics as usize);
@@ -286,11 +285,10 @@ impl MetadataTables {
 /// # Errors
 /// What [`read_metadata_response`] refuses.
 pub fn find_host(msg: &[u8], version: impl Into<i64>, node: i32) -> Result<Option<&str>, Refusal> {
-    let version = version.into();
     // SAFETY: a slice with its length.
-    let r = unsafe { raw::befrolan_find_host(msg.as_ptr(), msg.len(), version, Cell::from(node)) };
+    let r = unsafe { raw::befrolan_find_host(msg.as_ptr(), msg.len(), version.into(), Cell::from(node)) };
     if r.number != 0 {
-        return Err(Refusal::reading(said!(r), msg, version));
+        return Err(Refusal::of(r.number, r.place, r.need));
     }
     Ok((r.found == 1).then(|| text(msg, r.start, r.length)))
 }
@@ -306,7 +304,6 @@ pub fn write_metadata_request(
     topics: Option<&[&str]>,
     allow_auto_topic_creation: Option<bool>,
 ) -> Result<usize, Refusal> {
-    let version = version.into();
     let names = topics.unwrap_or(&[]);
     let lent: Vec<u8> = names.iter().flat_map(|n| n.bytes()).collect();
     let mut rows: Vec<Cell> = Vec::with_capacity(2 * names.len());
@@ -323,7 +320,7 @@ pub fn write_metadata_request(
         raw::befrolan_write_metadata_request(
             out.as_mut_ptr(),
             out.len(),
-            version,
+            version.into(),
             lent.as_ptr(),
             lent.len(),
             body.as_ptr(),
@@ -331,5 +328,5 @@ pub fn write_metadata_request(
             rows.len(),
         )
     };
-    crate::wrote(r, [&body, &rows, &[]], version)
+    crate::wrote(r)
 }

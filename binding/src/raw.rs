@@ -1,5 +1,5 @@
 //! The entry points of include/befrolan.h, as they are. A slice is a pointer and a number of elements; what a caller owes is
-//! listed there, and the calls of this crate's other files see to it. Every struct begins with the six numbers of a refusal.
+//! listed there, and the calls of this crate's other files see to it.
 
 #[repr(C)]
 #[derive(Clone, Copy, Debug)]
@@ -7,9 +7,6 @@ pub struct Numbers {
     pub number: i64,
     pub place: i64,
     pub need: i64,
-    pub message: i64,
-    pub row: i64,
-    pub field: i64,
     pub used: i64,
 }
 
@@ -19,9 +16,6 @@ pub struct ResponseNumbers {
     pub number: i64,
     pub place: i64,
     pub need: i64,
-    pub message: i64,
-    pub row: i64,
-    pub field: i64,
     pub used: i64,
     pub error: i64,
     pub items: i64,
@@ -36,9 +30,6 @@ pub struct RequestNumbers {
     pub number: i64,
     pub place: i64,
     pub need: i64,
-    pub message: i64,
-    pub row: i64,
-    pub field: i64,
     pub used: i64,
     pub name_kind: i64,
     pub name_start: i64,
@@ -55,9 +46,6 @@ pub struct MetadataNumbers {
     pub number: i64,
     pub place: i64,
     pub need: i64,
-    pub message: i64,
-    pub row: i64,
-    pub field: i64,
     pub used: i64,
     pub throttle_kind: i64,
     pub throttle: i64,
@@ -76,9 +64,6 @@ pub struct HostNumbers {
     pub number: i64,
     pub place: i64,
     pub need: i64,
-    pub message: i64,
-    pub row: i64,
-    pub field: i64,
     pub found: i64,
     pub start: i64,
     pub length: i64,
@@ -90,9 +75,6 @@ pub struct FetchNumbers {
     pub number: i64,
     pub place: i64,
     pub need: i64,
-    pub message: i64,
-    pub row: i64,
-    pub field: i64,
     pub used: i64,
     pub throttle_kind: i64,
     pub throttle: i64,
@@ -105,9 +87,6 @@ pub struct RequestFrameNumbers {
     pub number: i64,
     pub place: i64,
     pub need: i64,
-    pub message: i64,
-    pub row: i64,
-    pub field: i64,
     pub used: i64,
     pub request_api_key: i64,
     pub request_api_version: i64,
@@ -126,9 +105,6 @@ pub struct ResponseFrameNumbers {
     pub number: i64,
     pub place: i64,
     pub need: i64,
-    pub message: i64,
-    pub row: i64,
-    pub field: i64,
     pub used: i64,
     pub correlation_id: i64,
     pub tags: i64,

@@ -14,8 +14,6 @@ use std::io;
 ///
 /// The size of a frame is checked as soon as its 4 bytes are there. One that is below 0 or over 1,048,576 is refused with
 /// [`Refusal::BAD_SIZE`]: no room is made for it, and no more bytes are taken, since nobody knows where the next frame starts.
-/// Nobody knows either which header follows a bad size: where none was asked for, the refusal has the message
-/// [`ResponseHeader`](crate::Message::ResponseHeader).
 ///
 /// ```
 /// use befrolan::FrameReader;
@@ -124,7 +122,7 @@ impl FrameReader {
     /// # Errors
     /// [`Refusal::BAD_SIZE`].
     pub fn missing(&self) -> Result<usize, Refusal> {
-        // Whatever the header, both refusals come before it is read, and neither names a field of it; this is the shortest.
+        // Whatever the header, both refusals come before it is read; this is the shortest.
         match HeaderTables::default().response(self.held(), 0) {
             Err(e) if is_cut(&e) => Ok(SIZE + self.size().unwrap_or(0) - self.held().len()),
             Err(e) if e.number == Refusal::BAD_SIZE => Err(e),
@@ -218,9 +216,8 @@ impl FrameReader {
     }
 
     /// Reads from a stream until the frame at the front is all there; `false` where the stream ended before its first byte.
-    /// A bad size ends it too: whoever then reads the frame names its header.
     fn wait(&mut self, stream: &mut impl io::Read) -> Result<bool, StreamError> {
-        while self.missing().is_ok_and(|bytes| bytes > 0) {
+        while self.missing()? > 0 {
             if self.fill(stream)? == 0 {
                 return if self.held().is_empty() {
                     Ok(false)

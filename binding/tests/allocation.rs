@@ -1,7 +1,6 @@
-//! What a stream of frames makes room for, and that a refusal needs none. One test alone, since all allocations of the program are
-//! watched.
+//! What a stream of frames makes room for. One test alone, since all allocations of the program are watched.
 
-use befrolan::{read_fetch_response, FetchTables, FrameReader, Refusal, StreamError};
+use befrolan::{FrameReader, Refusal, StreamError};
 use std::alloc::{GlobalAlloc, Layout, System};
 use std::sync::atomic::{AtomicUsize, Ordering};
 
@@ -38,24 +37,6 @@ fn asked(f: impl FnOnce()) -> usize {
 }
 
 #[test]
-fn no_more_room_is_made_than_is_needed() {
-    no_room_is_made_for_a_size_over_the_limit();
-    no_room_is_made_for_the_name_of_a_refusal();
-}
-
-fn no_room_is_made_for_the_name_of_a_refusal() {
-    // Fetch 4: a throttle, a topic, a partition, an aborted transaction that is cut
-    let mut body = vec![0, 0, 0, 0, 0, 0, 0, 1, 0, 0, 0, 0, 0, 1];
-    body.extend([0; 22]);
-    body.extend([0, 0, 0, 1, 0]);
-    let mut tables = FetchTables::default();
-    let mut refused = None;
-    let most = asked(|| refused = read_fetch_response(&body, 4, &mut tables).err());
-    let e = refused.expect("it is cut");
-    let path = "responses[0].partitions[0].aborted_transactions[0].producer_id";
-    assert_eq!((most, e.path().map(|path| path.to_string())), (0, Some(path.into())));
-}
-
 fn no_room_is_made_for_a_size_over_the_limit() {
     for size in [1_048_577_u32, 2_147_483_647, 2_147_483_648, 4_294_967_295] {
         let bytes = size.to_be_bytes();

@@ -2,18 +2,6 @@
 
 use befrolan::*;
 
-/// The numbers of a refusal: number, place, need, message, row, field.
-type Six = (u8, usize, usize, Message, Option<usize>, Option<usize>);
-
-fn six(e: Refusal) -> Six {
-    (e.number, e.place, e.need, e.message(), e.row(), e.field())
-}
-
-/// Of a refusal that is about the message as a whole.
-fn whole(number: u8, need: usize, message: Message) -> Six {
-    (number, 0, need, message, None, None)
-}
-
 fn hex(s: &str) -> Vec<u8> {
     let digits: Vec<u8> = s.bytes().filter(|b| !b.is_ascii_whitespace()).collect();
     digits.chunks(2).map(|d| u8::from_str_radix(std::str::from_utf8(d).unwrap(), 16).unwrap()).collect()
@@ -29,13 +17,10 @@ fn an_answer_is_read_at_its_own_version_alone() {
     let rows: Vec<_> = r.api_versions().map(|v| (v.api_key, v.min_version, v.max_version, v.tags.is_some())).collect();
     assert_eq!(rows, [(18, 0, 3, false)]);
     let e = read_api_versions_response(&body, 1, Read::Whole, &mut tables).unwrap_err();
-    assert_eq!(six(e), (Refusal::BYTES_END, 12, 0, Message::ApiVersionsResponse, None, Some(2)));
+    assert_eq!((e.number, e.place), (Refusal::BYTES_END, 12));
     let e = read_api_versions_response(&body, 3, Read::Whole, &mut tables).unwrap_err();
-    assert_eq!(six(e), (Refusal::NULL_ITEMS, 2, 0, Message::ApiVersionsResponse, None, Some(1)));
-    assert_eq!(
-        e.to_string(),
-        "8 at byte 2, in api_keys of an ApiVersions response: the items are null, and the body was read whole"
-    );
+    assert_eq!((e.number, e.place), (Refusal::NULL_ITEMS, 2));
+    assert_eq!(e.to_string(), "8 at byte 2: the items are null, and the body was read whole");
     // E11: version 3
     let body = hex("0000 02 0012 0000 0003 00 00000000 00");
     let r = read_api_versions_response(&body, 3, Read::Whole, &mut tables).unwrap();
@@ -54,28 +39,19 @@ fn a_version_that_there_is_not_is_refused_whatever_its_low_bits_are() {
     let fetch = hex("00000000");
     let mut out = [0xa5; 64];
     for version in [65_536, 65_539, -1, -65_536, 1 << 32, i64::MIN, i64::MAX] {
-        let no = |message| whole(Refusal::NO_VERSION, 0, message);
+        let no = Refusal { number: Refusal::NO_VERSION, place: 0, need: 0 };
         for read in [Read::Prefix, Read::Whole] {
             let mut tables = ApiVersionsTables::default();
-            let e = read_api_versions_response(&offer, version, read, &mut tables).unwrap_err();
-            assert_eq!(six(e), no(Message::ApiVersionsResponse));
+            assert_eq!(read_api_versions_response(&offer, version, read, &mut tables).unwrap_err(), no);
         }
-        let e = read_api_versions_request(&[], version, &mut ApiVersionsTables::default()).unwrap_err();
-        assert_eq!(six(e), no(Message::ApiVersionsRequest));
-        let e = read_metadata_response(&metadata, version, &mut MetadataTables::default()).unwrap_err();
-        assert_eq!(six(e), no(Message::MetadataResponse));
-        assert_eq!(find_host(&metadata, version, 1), Err(e));
-        let e = read_fetch_response(&fetch, version, &mut FetchTables::default()).unwrap_err();
-        assert_eq!(six(e), no(Message::FetchResponse));
-        let e = ApiVersionsAnswer::new(0).write(&mut out, version).unwrap_err();
-        assert_eq!(six(e), no(Message::ApiVersionsResponse));
-        let e = write_api_versions_request(&mut out, version, "gw", "1").unwrap_err();
-        assert_eq!(six(e), no(Message::ApiVersionsRequest));
-        assert_eq!(e.to_string(), "1, in an ApiVersions request: there is no such version, or no such header");
-        let e = write_metadata_request(&mut out, version, None, None).unwrap_err();
-        assert_eq!(six(e), no(Message::MetadataRequest));
-        let e = FetchRequest::new(500, 1).write(&mut out, version).unwrap_err();
-        assert_eq!(six(e), no(Message::FetchRequest));
+        assert_eq!(read_api_versions_request(&[], version, &mut ApiVersionsTables::default()).unwrap_err(), no);
+        assert_eq!(read_metadata_response(&metadata, version, &mut MetadataTables::default()).unwrap_err(), no);
+        assert_eq!(find_host(&metadata, version, 1), Err(no));
+        assert_eq!(read_fetch_response(&fetch, version, &mut FetchTables::default()).unwrap_err(), no);
+        assert_eq!(ApiVersionsAnswer::new(0).write(&mut out, version), Err(no));
+        assert_eq!(write_api_versions_request(&mut out, version, "gw", "1"), Err(no));
+        assert_eq!(write_metadata_request(&mut out, version, None, None), Err(no));
+        assert_eq!(FetchRequest::new(500, 1).write(&mut out, version), Err(no));
         assert_eq!(out, [0xa5; 64]);
     }
     // any integer that fits is a version, with no cast
@@ -87,13 +63,12 @@ fn a_version_that_there_is_not_is_refused_whatever_its_low_bits_are() {
 
 #[test]
 fn empty_slices_are_lent_like_any_others() {
-    let e = find_host(&[], 0, 1).unwrap_err();
-    assert_eq!(six(e), (Refusal::BYTES_END, 0, 0, Message::MetadataResponse, None, Some(0)));
+    assert_eq!(find_host(&[], 0, 1).unwrap_err().number, Refusal::BYTES_END);
     let e = write_api_versions_request(&mut [], 3, "", "").unwrap_err();
-    assert_eq!(six(e), whole(Refusal::NO_ROOM, 3, Message::ApiVersionsRequest));
+    assert_eq!((e.number, e.need), (Refusal::NO_ROOM, 3));
     assert_eq!(write_api_versions_request(&mut [], 0, "", ""), Ok(0));
     let e = FetchRequest::new(500, 1).write(&mut [], 4).unwrap_err();
-    assert_eq!(six(e), whole(Refusal::NO_ROOM, 21, Message::FetchRequest));
+    assert_eq!((e.number, e.need), (Refusal::NO_ROOM, 21));
 }
 
 #[test]
@@ -147,10 +122,7 @@ fn metadata_has_its_rows_under_their_topics() {
     );
     assert_eq!(find_host(&body, 4, 2), Ok(Some("")));
     assert_eq!(find_host(&body, 4, 3), Ok(None));
-    // the last field: the nodes in sync of the third partition
-    let e = find_host(&body[..body.len() - 1], 4, 1).unwrap_err();
-    assert_eq!(six(e), (Refusal::BYTES_END, body.len() - 4, 0, Message::MetadataResponse, Some(2), Some(4)));
-    assert_eq!(e.path().unwrap().to_string(), "topics[1].partitions[0].isr_nodes");
+    assert_eq!(find_host(&body[..body.len() - 1], 4, 1).unwrap_err().number, Refusal::BYTES_END);
 }
 
 #[test]
@@ -163,8 +135,8 @@ fn a_metadata_request_tells_null_from_empty() {
     assert_eq!(write_metadata_request(&mut out, 0, Some(&["ab", "c"]), Some(true)), Ok(11));
     assert_eq!(out[..11], hex("00000002 0002 6162 0001 63"));
     let e = write_metadata_request(&mut out[..3], 0, None, None).unwrap_err();
-    assert_eq!(six(e), whole(Refusal::NO_ROOM, 4, Message::MetadataRequest));
-    assert_eq!(e.to_string(), "10, in a Metadata request: there is too little room: 4 are needed");
+    assert_eq!((e.number, e.need), (Refusal::NO_ROOM, 4));
+    assert_eq!(e.to_string(), "10: there is too little room: 4 are needed");
 }
 
 #[test]
@@ -185,11 +157,7 @@ fn fetched_records_are_parts_of_the_message() {
     assert_eq!(p[0].aborted_transactions.collect::<Vec<_>>(), [AbortedTransaction { producer_id: 4, first_offset: 5 }]);
     assert_eq!((p[1].error_code, p[1].aborted_transactions.count(), p[1].records.len()), (6, 0, 0));
     assert!(body.as_ptr_range().contains(&p[0].records.as_ptr()));
-    let e = read_fetch_response(&[], 4, &mut tables).unwrap_err();
-    assert_eq!(
-        e.to_string(),
-        "3 at byte 0, in throttle_time_ms of a Fetch response: the message ends inside a field"
-    );
+    assert_eq!(read_fetch_response(&[], 4, &mut tables).unwrap_err().to_string(), "3 at byte 0: the message ends inside a field");
 }
 
 #[test]
@@ -199,8 +167,7 @@ fn the_worked_fetch_request_has_its_bytes() {
     assert_eq!(request.write(&mut out, 4), Ok(21));
     assert_eq!(out[..22], hex("ffffffff 000001f4 00000001 7fffffff 00 00000000 a5"));
     request.isolation_level = Some(2);
-    let e = request.write(&mut out, 4).unwrap_err();
-    assert_eq!(six(e), (Refusal::TOO_WIDE, 0, 0, Message::FetchRequest, None, Some(4)));
+    assert_eq!(request.write(&mut out, 4).unwrap_err().number, Refusal::TOO_WIDE);
     assert_eq!(request.write(&mut out, 3), Ok(20));
     assert_eq!(request.write(&mut out, 5).unwrap_err().number, Refusal::NO_VERSION);
     request.topic("ab", &[WantedPartition { partition: 3, fetch_offset: 256, partition_max_bytes: 1 }]);
@@ -246,8 +213,7 @@ fn an_answer_is_written_and_comes_back() {
     assert_eq!(back.tags().unwrap().collect::<Vec<_>>(), [Tag { tag: 7, data: b"" }]);
     let mut tables = ApiVersionsTables::default();
     assert!(read_api_versions_response(&out[..n], 1, Read::Whole, &mut tables).is_err());
-    let e = answer.write(&mut out[..4], 3).unwrap_err();
-    assert_eq!(six(e), whole(Refusal::NO_ROOM, n, Message::ApiVersionsResponse));
+    assert_eq!(answer.write(&mut out[..4], 3), Err(Refusal { number: Refusal::NO_ROOM, place: 0, need: n }));
 }
 
 #[test]
@@ -256,8 +222,18 @@ fn a_text_is_refused_at_its_first_bad_letter() {
     let body = hex("00000000 00000001 0000 0005 636166e973 00000000");
     let mut tables = MetadataTables::default();
     let e = read_metadata_response(&body, 0, &mut tables).unwrap_err();
-    assert_eq!(six(e), (Refusal::NOT_TEXT, 15, 0, Message::MetadataResponse, Some(0), Some(1)));
-    assert_eq!(body[e.place], 0xe9);
+    assert_eq!((e.number, e.place, body[e.place]), (Refusal::NOT_TEXT, 15, 0xe9));
     assert_eq!(find_host(&body, 0, 1), Err(e));
     assert_eq!(well_formed(&body[12..17]), 3);
+}
+
+#[test]
+fn refusals_have_the_words_of_the_night_desk() {
+    let words = include_str!("../../data/refusals.txt");
+    assert_eq!(words.lines().count(), 14);
+    for line in words.lines() {
+        let (number, means) = line.split_once(' ').unwrap();
+        let said = Refusal { number: number.parse().unwrap(), place: 5, need: 6 }.to_string();
+        assert!(said.starts_with(number) && said.contains(means), "{said}");
+    }
 }

@@ -216,15 +216,6 @@ pub static WRITE_BODIES: [(&WriteBody, &[Kind], usize); 5] = {
     ]
 };
 
-/// The message of a call that is given a version.
-pub fn message_of(name: &str) -> Option<u8> {
-    let read = READ_BODIES.iter().map(|call| (call.name, call.last, call.message));
-    let written = WRITE_BODIES.iter().map(|(call, ..)| (call.name, call.last, call.message));
-    let host = ("host", Some(metadata::LAST), names::METADATA_RESPONSE);
-    let mut versioned = read.chain(written).chain([host]).filter(|(_, last, _)| last.is_some());
-    versioned.find(|(call, ..)| *call == name).map(|(.., message)| message)
-}
-
 /// A read of a frame, which fills a lent table of tags.
 pub struct ReadFrame {
     pub name: &'static str,

@@ -28,7 +28,7 @@ pub enum Lent {
 /// The row and the field of a refusal that has none.
 pub const NONE: i64 = -1;
 
-/// A refusal: number, place, need, and the message, row and field that it is about.
+/// A refusal: number, place, need, and what it speaks of.
 #[derive(Debug, Clone, Copy, PartialEq, Eq)]
 pub struct Refusal {
     pub number: u8,
@@ -52,6 +52,9 @@ impl Refusal {
         Self { need, ..Self::at(message, 10, 0) }
     }
 }
+
+/// Does a line say what a refusal speaks of? docs/ANSWERS.md has no words for it yet.
+const LINES_HAVE_NAMES: bool = false;
 
 /// A whole answer.
 #[derive(Debug, Clone, PartialEq, Eq)]
@@ -83,8 +86,10 @@ impl Answer<'_> {
 }
 
 fn put_refusal(line: &mut Vec<u8>, no: &Refusal) {
-    let Refusal { number, place, need, message, row, field } = no;
-    write!(line, "no {number} {place} {need} {message} {row} {field}").unwrap();
+    write!(line, "no {} {} {}", no.number, no.place, no.need).unwrap();
+    if LINES_HAVE_NAMES {
+        write!(line, " {} {} {}", no.message, no.row, no.field).unwrap();
+    }
 }
 
 pub fn put_word(line: &mut Vec<u8>, word: &Word) {

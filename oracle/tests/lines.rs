@@ -38,7 +38,7 @@ fn what_is_lent_runs_on_into_its_fill() {
     assert_eq!(line, b"ok -1 3:- null 1,777*5 00,a5*8 kept");
     line.clear();
     Answer { reply: Err(Refusal::no_room(2, 7)), lent: vec![Lent::Table { room: 0, front: vec![] }] }.put(&mut line);
-    assert_eq!(line, b"no 10 0 7 2 -1 -1 - kept");
+    assert_eq!(line, b"no 10 0 7 - kept");
 }
 
 /// BYTES, as the page describes them.

@@ -193,68 +193,30 @@ fn bad_lines_give_nothing() {
 
 #[test]
 fn a_list_is_answered_again() {
-    let cases: [&[u8]; 7] = [
-        b"string 0003616180",
-        b"string 000161",
-        b"bad",
-        b"host 65536 0 -",
-        b"response_read 65536 4 0 -",
-        b"request_write 2 4294967296 - absent absent -1 -",
-        b"request_read 3 3 0280",
-    ];
-    let before = [
-        "no 7 4 0",
-        "ok 3 2:61",
-        "bad case",
-        "no 1 0 0",
-        "no 1 0 0 777*4 - kept",
-        "no 1 0 0 a5a5 kept",
-        "no 7 1 0 777,777,777 kept",
-    ];
-    let named = [
-        "no 7 4 0 0 -1 -1",
-        "ok 3 2:61",
-        "bad case",
-        "no 1 0 0 4 -1 -1",
-        "no 1 0 0 2 -1 -1 777*4 - kept",
-        "no 1 0 0 1 -1 -1 a5a5 kept",
-        "no 7 1 0 1 -1 0 777,777,777 kept",
-    ];
-    // With the three numbers, and once more, where they are there already.
-    for (before, changed) in [(before, 5), (named, 0)] {
-        let now = again(&cases, &before);
-        assert_eq!(now.expected, named);
-        assert_eq!((now.judged, now.copied, now.changed), (3, 4, changed));
-        assert_eq!(now.wrong, Vec::<String>::new());
-    }
+    let moved = again(
+        &[b"string 0003616180", b"string 000161", b"bad", b"host 65536 0 -"],
+        &["no 7 0 0", "ok 3 2:61", "bad case", "no 1 0 0"],
+    );
+    assert_eq!(moved.expected, ["no 7 4 0", "ok 3 2:61", "bad case", "no 1 0 0"]);
+    assert_eq!((moved.judged, moved.copied, moved.changed), (2, 2, 1));
+    assert_eq!(moved.wrong, Vec::<String>::new());
 }
 
-/// Another number, place, need or table, an acceptance, another name; and what is copied without a reason.
+/// Another number, need or table, another place of another number, an acceptance; and what is copied without a reason.
 #[test]
 fn other_changes_are_wrong() {
-    let wrong: [(&[u8], &str); 19] = [
+    let wrong: [(&[u8], &str); 8] = [
         (b"string 000180", "no 3 2 0"),
-        (b"string 000180", "no 7 0 0"),
         (b"string 000180", "no 7 2 1"),
         (b"string 000180", "ok 3 2:80"),
-        (b"string 000161", "ok 3 2:62"),
         (b"request_read 3 3 0280", "no 7 1 0 777,777 kept"),
-        (b"request_read 3 3 0280", "no 7 1 0 777,777,777"),
-        (b"request_read 3 3 0280", "no 7 1 0 2 -1 0 777,777,777 kept"),
-        (b"request_read 3 3 0280", "no 7 1 0 1 0 0 777,777,777 kept"),
-        (b"request_read 3 3 0280", "no 7 1 0 1 -1 1 777,777,777 kept"),
+        (b"request_read 3 3 0280", "no 7 0 0 777,777,777"),
         (b"string 0002", "no 3 2 0"),
         (b"string 000161", "no 7 2 0"),
         (b"string 0001,80,", "no 7 0 0"),
-        // Only a call that is given a version can have one that 16 bits do not hold.
-        (b"string 0001,80,", "no 1 0 0"),
-        (b"response_read 65536 4 0 -", "no 1 0 00 777*4 - kept"),
-        (b"response_read 65536 4 0 -", "no 1 0 4 777*4 - kept"),
-        (b"response_read 65536 4 0 -", "no 1 0 0 3 -1 -1 777*4 - kept"),
-        (b"host 65536 0 -", "no 3 0 0 4 -1 0"),
-        (b"host 65536 0 -", "ok none"),
     ];
     for (case, before) in wrong {
         assert_eq!(again(&[case], &[before]).wrong.len(), 1, "{before}");
     }
+    assert_eq!(again(&[b"request_read 3 3 0280"], &["no 7 0 0 777,777,777 kept"]).wrong, Vec::<String>::new());
 }

@@ -85,10 +85,9 @@ void say_signed(int64_t cell);
 void say_bytes(const uint8_t *bytes, size_t n);
 void say_cells(const int64_t *cells, size_t n);
 
-/* Whether the call accepted, and `ok` or the refusal. An answer is a struct of numbers of which the first six are those of a refusal. The message
- * is that of the call. */
-bool accepted(const void *answer, size_t size, int64_t message);
-#define ACCEPTED(answer, message) accepted(&(answer), sizeof(answer), message)
+/* Whether the call accepted, and `ok` or the refusal. An answer is a struct of numbers of which the first three are number, place and need. */
+bool accepted(const void *answer, size_t size);
+#define ACCEPTED(answer) accepted(&(answer), sizeof(answer))
 
 /* A number that a version may lack. */
 void say_optional(int64_t kind, int64_t value);

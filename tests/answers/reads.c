@@ -26,7 +26,7 @@ static bool is_signed(uint64_t kind)
 void ask_primitive(const struct word *w, uint64_t kind)
 {
     befrolan_primitive_numbers r = befrolan_read_primitive(w[0].bytes, w[0].size, kind);
-    if (!ACCEPTED(r, BEFROLAN_MESSAGE_NONE))
+    if (!ACCEPTED(r))
         return;
     say_number(r.used);
     if (r.form == BEFROLAN_NULL || kind >= BEFROLAN_BYTES) {
@@ -45,7 +45,7 @@ void ask_tagged_fields(const struct word *w, uint64_t number)
 {
     (void)number;
     befrolan_tags_numbers r = befrolan_read_tagged_fields(w[1].bytes, w[1].size, lend_table(w[0].size), w[0].size);
-    if (!ACCEPTED(r, BEFROLAN_MESSAGE_NONE))
+    if (!ACCEPTED(r))
         return;
     say_number(r.used);
     say_number(r.tags);
@@ -58,7 +58,7 @@ void ask_response(const struct word *w, uint64_t whole)
     int64_t *items = lend_table(w[1].size), *tags = lend_table(w[2].size);
     befrolan_response_numbers r = befrolan_read_api_versions_response(
         w[3].bytes, w[3].size, w[0].cell, whole, items, w[1].size, tags, w[2].size);
-    if (!ACCEPTED(r, BEFROLAN_MESSAGE_API_VERSIONS_RESPONSE))
+    if (!ACCEPTED(r))
         return;
     say_number(r.used);
     say_signed(r.error);
@@ -72,7 +72,7 @@ void ask_request(const struct word *w, uint64_t number)
     (void)number;
     befrolan_request_numbers r = befrolan_read_api_versions_request(
         w[2].bytes, w[2].size, w[0].cell, lend_table(w[1].size), w[1].size);
-    if (!ACCEPTED(r, BEFROLAN_MESSAGE_API_VERSIONS_REQUEST))
+    if (!ACCEPTED(r))
         return;
     say_number(r.used);
     note(r.name_kind != BEFROLAN_NULL && r.version_kind != BEFROLAN_NULL);
@@ -102,7 +102,7 @@ void ask_metadata(const struct word *w, uint64_t number)
     befrolan_metadata_numbers r = befrolan_read_metadata_response(
         w[6].bytes, w[6].size, w[0].cell,
         table[0], w[1].size, table[1], w[2].size, table[2], w[3].size, table[3], w[4].size, table[4], w[5].size);
-    if (!ACCEPTED(r, BEFROLAN_MESSAGE_METADATA_RESPONSE))
+    if (!ACCEPTED(r))
         return;
     say_number(r.used);
     say_optional(r.throttle_kind, r.throttle);
@@ -116,7 +116,7 @@ void ask_host(const struct word *w, uint64_t number)
 {
     (void)number;
     befrolan_host_numbers r = befrolan_find_host(w[2].bytes, w[2].size, w[0].cell, w[1].cell);
-    if (!ACCEPTED(r, BEFROLAN_MESSAGE_METADATA_RESPONSE))
+    if (!ACCEPTED(r))
         return;
     if (r.found == 0) {
         note(r.start == 0 && r.length == 0);
@@ -135,7 +135,7 @@ void ask_fetch(const struct word *w, uint64_t number)
     int64_t *topics = lend_table(w[1].size), *partitions = lend_table(w[2].size), *aborted = lend_table(w[3].size);
     befrolan_fetch_numbers r = befrolan_read_fetch_response(
         w[4].bytes, w[4].size, w[0].cell, topics, w[1].size, partitions, w[2].size, aborted, w[3].size);
-    if (!ACCEPTED(r, BEFROLAN_MESSAGE_FETCH_RESPONSE))
+    if (!ACCEPTED(r))
         return;
     say_number(r.used);
     say_optional(r.throttle_kind, r.throttle);
@@ -149,7 +149,7 @@ void ask_request_frame(const struct word *w, uint64_t number)
     (void)number;
     befrolan_request_frame_numbers r = befrolan_read_request_frame(
         w[2].bytes, w[2].size, w[0].cell, lend_table(w[1].size), w[1].size);
-    if (!ACCEPTED(r, BEFROLAN_MESSAGE_REQUEST_HEADER))
+    if (!ACCEPTED(r))
         return;
     say_number(r.used);
     say_signed(r.request_api_key);
@@ -166,7 +166,7 @@ void ask_response_frame(const struct word *w, uint64_t number)
     (void)number;
     befrolan_response_frame_numbers r = befrolan_read_response_frame(
         w[2].bytes, w[2].size, w[0].cell, lend_table(w[1].size), w[1].size);
-    if (!ACCEPTED(r, BEFROLAN_MESSAGE_RESPONSE_HEADER))
+    if (!ACCEPTED(r))
         return;
     say_number(r.used);
     say_signed(r.correlation_id);

@@ -139,32 +139,21 @@ void say_stray(void)
     stray = false;
 }
 
-/* The numbers of a refusal, which every answer begins with. */
-enum { NUMBER, PLACE, NEED, MESSAGE, ROW, FIELD, AFTER };
-
-static void note_zeros(const int64_t *numbers, size_t from, size_t to)
-{
-    for (size_t i = from; i < to; i++)
-        note(numbers[i] == 0);
-}
-
-/* An accepting answer has 0 for all of these; a refusing one has 0 for everything else. */
-bool accepted(const void *answer, size_t size, int64_t message)
+/* An accepting answer has place and need 0; a refusing one has 0 for everything but these and the number. */
+bool accepted(const void *answer, size_t size)
 {
     int64_t numbers[16];
     memcpy(numbers, answer, size);
-    if (numbers[NUMBER] == BEFROLAN_ACCEPTED) {
-        note_zeros(numbers, PLACE, AFTER);
+    if (numbers[0] == BEFROLAN_ACCEPTED) {
+        note(numbers[1] == 0 && numbers[2] == 0);
         say("ok");
         return true;
     }
     say("no");
-    for (size_t i = NUMBER; i <= MESSAGE; i++)
+    for (size_t i = 0; i < 3; i++)
         say_number(numbers[i]);
-    say_signed(numbers[ROW]);
-    say_signed(numbers[FIELD]);
-    note(numbers[MESSAGE] == message && numbers[ROW] >= BEFROLAN_NOWHERE && numbers[FIELD] >= BEFROLAN_NOWHERE);
-    note_zeros(numbers, AFTER, size / sizeof numbers[0]);
+    for (size_t i = 3; i < size / sizeof numbers[0]; i++)
+        note(numbers[i] == 0);
     return false;
 }
 

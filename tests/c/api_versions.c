@@ -1,9 +1,6 @@
 /* ApiVersions bodies, read and written, and the agreement on versions. */
 #include "lent.h"
 
-#define REQUEST BEFROLAN_MESSAGE_API_VERSIONS_REQUEST
-#define RESPONSE BEFROLAN_MESSAGE_API_VERSIONS_RESPONSE
-
 /* ---- ApiVersions responses, read */
 
 static const uint8_t E10[] = {0, 0, 0, 0, 0, 1, 0, 18, 0, 0, 0, 3, 0, 0, 0, 0};
@@ -22,9 +19,9 @@ static int body(befrolan_response_numbers r, int64_t used, int64_t error, int64_
     return USED(r, used) && r.error == error && r.items == items && r.throttle_kind == kind && r.throttle == throttle && r.tags == tags;
 }
 
-static int no_response(befrolan_response_numbers r, int64_t number, int64_t place, int64_t need, int64_t row, int64_t field)
+static int no_response(befrolan_response_numbers r, int64_t number, int64_t place, int64_t need)
 {
-    return REFUSED(r, number, place, need, RESPONSE, row, field) && r.error == 0 && r.items == 0 && r.throttle_kind == 0 && r.throttle == 0 && r.tags == 0
+    return REFUSED(r, number, place, need) && r.error == 0 && r.items == 0 && r.throttle_kind == 0 && r.throttle == 0 && r.tags == 0
            && holds(first, no_cells, 0) && holds(second, no_cells, 0);
 }
 
@@ -33,71 +30,39 @@ static void responses_read(void)
     for (uint64_t w = 0; w < 3; w++) {
         CHECK(body(response(E9, 12, 0, w, 16, 12), 12, 0, 1, 0, 0, -1));
         CHECK(holds(first, C(18, 0, 3, -1), 4) && holds(second, no_cells, 0));
-        CHECK(no_response(response(E9, 12, 1, w, 16, 12), 3, 12, 0, OWN(2)));
-        CHECK(no_response(response(E9, 12, 4, w, 16, 12), 1, 0, 0, NOWHERE));
-        CHECK(no_response(response(E9, 12, -1, w, 16, 12), 1, 0, 0, NOWHERE));
-        CHECK(no_response(response(E9, 12, 0, w, 3, 12), 10, 0, 1, NOWHERE));
+        CHECK(no_response(response(E9, 12, 1, w, 16, 12), 3, 12, 0));
+        CHECK(no_response(response(E9, 12, 4, w, 16, 12), 1, 0, 0));
+        CHECK(no_response(response(E9, 12, -1, w, 16, 12), 1, 0, 0));
+        CHECK(no_response(response(E9, 12, 0, w, 3, 12), 10, 0, 1));
         CHECK(body(response(E9, 12, 0, w, 4, 0), 12, 0, 1, 0, 0, -1));
         for (int64_t v = 0; v < 4; v++)
-            CHECK(no_response(response(none, 0, v, w, 16, 12), 3, 0, 0, OWN(0)));
+            CHECK(no_response(response(none, 0, v, w, 16, 12), 3, 0, 0));
     }
-    CHECK(no_response(response(E9, 12, 3, 1, 16, 12), 8, 2, 0, OWN(1)));
+    CHECK(no_response(response(E9, 12, 3, 1, 16, 12), 8, 2, 0));
     CHECK(body(response(E10, 16, 1, 1, 16, 12), 16, 0, 1, 2, 0, -1));
     CHECK(body(response(E10, 16, 2, 1, 16, 12), 16, 0, 1, 2, 0, -1));
-    CHECK(no_response(response(E10, 16, 0, 1, 16, 12), 9, 12, 0, NOWHERE));
-    CHECK(no_response(response(E10, 16, 0, UINT64_C(1) << 63, 16, 12), 9, 12, 0, NOWHERE));
+    CHECK(no_response(response(E10, 16, 0, 1, 16, 12), 9, 12, 0));
+    CHECK(no_response(response(E10, 16, 0, UINT64_C(1) << 63, 16, 12), 9, 12, 0));
     CHECK(body(response(E10, 16, 0, 0, 16, 12), 12, 0, 1, 0, 0, -1));
     CHECK(body(response(E11, 15, 3, 1, 16, 12), 15, 0, 1, 2, 0, 0));
     CHECK(holds(first, C(18, 0, 3, 0), 4) && holds(second, no_cells, 0));
-    CHECK(no_response(response(E11, 15, 0, 1, 16, 12), 3, 14, 0, ROW(1, 1)));
+    CHECK(no_response(response(E11, 15, 0, 1, 16, 12), 3, 14, 0));
     CHECK(body(response(E12, 10, 1, 1, 16, 12), 10, 0, 0, 2, 66816, -1));
     CHECK(body(response(E12, 10, 3, 0, 16, 12), 10, 0, 0, 2, 0, 1));
     CHECK(holds(first, no_cells, 0) && holds(second, C(5, 10, 0), 3));
-    CHECK(no_response(response(E12, 10, 3, 0, 16, 2), 10, 0, 1, NOWHERE));
-    CHECK(no_response(response(E12, 10, 3, 1, 16, 12), 8, 2, 0, OWN(1)));
+    CHECK(no_response(response(E12, 10, 3, 0, 16, 2), 10, 0, 1));
+    CHECK(no_response(response(E12, 10, 3, 1, 16, 12), 8, 2, 0));
     CHECK(body(response(B(0xff, 0xff, 0, 0, 0, 0), 6, 0, 1, 0, 0), 6, -1, 0, 0, 0, -1));
-    CHECK(no_response(response(B(0, 0, 0xff, 0xff, 0xff, 0xfe), 6, 0, 0, 16, 12), 4, 2, 0, OWN(1)));
+    CHECK(no_response(response(B(0, 0, 0xff, 0xff, 0xff, 0xfe), 6, 0, 0, 16, 12), 4, 2, 0));
     CHECK(body(response(TAGGED, 21, 3, 1, 4, 6), 21, 0, 1, 2, 9, 1));
     CHECK(holds(first, C(3, 0, 4, 1), 4) && holds(second, C(7, 12, 2, 1, 21, 0), 6));
-    CHECK(no_response(response(TAGGED, 21, 3, 1, 4, 5), 10, 0, 2, NOWHERE));
-    CHECK(no_response(response(TAGGED, 21, 3, 1, 0, 0), 10, 0, 1, NOWHERE));
-    CHECK(no_response(response(TAGGED, 13, 3, 1, 4, 6), 3, 11, 0, ROW(0, 1)));
-    CHECK(no_response(response(large, BEFROLAN_MOST + 1, 0, 0, 16, 12), 2, 0, 0, NOWHERE));
-    CHECK(no_response(response(large, BEFROLAN_MOST + 1, 4, 0, 16, 12), 1, 0, 0, NOWHERE));
+    CHECK(no_response(response(TAGGED, 21, 3, 1, 4, 5), 10, 0, 2));
+    CHECK(no_response(response(TAGGED, 21, 3, 1, 0, 0), 10, 0, 1));
+    CHECK(no_response(response(TAGGED, 13, 3, 1, 4, 6), 3, 11, 0));
+    CHECK(no_response(response(large, BEFROLAN_MOST + 1, 0, 0, 16, 12), 2, 0, 0));
+    CHECK(no_response(response(large, BEFROLAN_MOST + 1, 4, 0, 16, 12), 1, 0, 0));
     CHECK(body(response(large, BEFROLAN_MOST, 0, 0, 16, 12), 6, 0, 0, 0, 0, -1));
-    CHECK(no_response(response(large, BEFROLAN_MOST, 0, 1, 16, 12), 9, 6, 0, NOWHERE));
-}
-
-/* An item (18, 0 to 3) with a tag 5 of a byte and a tag 6 of none, an item (3, 0 to 4) with a tag 7 of two bytes; throttle 9; an own
- * tag 8 of a byte. Where the primitives start, with their rows and fields; and those of E10. The last of each is the end. */
-static const uint8_t ITEMS[] = {0, 0, 3, 0, 18, 0, 0, 0, 3, 2, 5, 1, 'a', 6, 0, 0, 3, 0, 0, 0, 4, 1, 7, 2, 'a', 'b', 0, 0, 0, 9, 1, 8, 1, 'c'};
-static const primitive items3[] = {
-    {0, OWN(0)}, {2, OWN(1)},
-    {3, ROW(0, 0)}, {5, ROW(0, 1)}, {7, ROW(0, 2)}, {9, ROW(0, 3)}, {10, ROW(0, 0)}, {11, ROW(0, 1)}, {13, ROW(1, 0)}, {14, ROW(1, 1)},
-    {15, ROW(1, 0)}, {17, ROW(1, 1)}, {19, ROW(1, 2)}, {21, ROW(1, 3)}, {22, ROW(2, 0)}, {23, ROW(2, 1)},
-    {26, OWN(2)}, {30, OWN(3)}, {31, ROW(3, 0)}, {32, ROW(3, 1)}, {34, NOWHERE}};
-static const primitive items1[] = {{0, OWN(0)}, {2, OWN(1)}, {6, ROW(0, 0)}, {8, ROW(0, 1)}, {10, ROW(0, 2)}, {12, OWN(2)}, {16, NOWHERE}};
-
-/* a body cut anywhere: 3 at the primitive that is not all there, in its row and field, for both reads */
-static void cut(const uint8_t *m, int64_t v, const primitive *p, size_t n)
-{
-    for (size_t i = 0; i + 1 < n; i++)
-        for (int64_t k = p[i].start; k < p[i + 1].start; k++)
-            for (uint64_t w = 0; w < 2; w++)
-                CHECK(no_response(response(m, (size_t)k, v, w, 16, 12), 3, p[i].start, 0, p[i].row, p[i].field));
-}
-
-static void responses_cut(void)
-{
-    cut(E9, 0, items1, 6);
-    cut(E10, 1, items1, 7);
-    cut(E10, 2, items1, 7);
-    cut(ITEMS, 3, items3, sizeof items3 / sizeof items3[0]);
-    CHECK(body(response(ITEMS, 34, 3, 1, 16, 12), 34, 0, 2, 2, 9, 1));
-    CHECK(holds(first, C(18, 0, 3, 2, 3, 0, 4, 1), 8) && holds(second, C(5, 12, 1, 6, 15, 0, 7, 24, 2, 8, 33, 1), 12));
-    /* an own tag's length that goes on for ten bytes, and the count of the second item's tags */
-    CHECK(no_response(response(B(0, 0, 1, 0, 0, 0, 0, 2, 5, 0, 6, CONTINUES), 21, 3, 1, 16, 12), 5, 11, 0, ROW(1, 1)));
-    CHECK(no_response(response(B(0, 0, 3, 0, 1, 0, 0, 0, 0, 0, 0, 1, 0, 0, 0, 0, CONTINUES), 26, 3, 0, 16, 12), 5, 16, 0, ROW(1, 3)));
+    CHECK(no_response(response(large, BEFROLAN_MOST, 0, 1, 16, 12), 9, 6, 0));
 }
 
 /* ---- ApiVersions requests, read */
@@ -112,9 +77,9 @@ static int texts(befrolan_request_numbers r, int64_t used, int64_t kind, int64_t
     return USED(r, used) && r.name_kind == kind && r.name_start == a && r.name_length == k && r.version_kind == kind && r.version_start == b && r.version_length == m && r.tags == tags;
 }
 
-static int no_request(befrolan_request_numbers r, int64_t number, int64_t place, int64_t need, int64_t row, int64_t field)
+static int no_request(befrolan_request_numbers r, int64_t number, int64_t place, int64_t need)
 {
-    return REFUSED(r, number, place, need, REQUEST, row, field) && r.name_kind == 0 && r.name_start == 0 && r.name_length == 0 && r.version_kind == 0 && r.version_start == 0 && r.version_length == 0
+    return REFUSED(r, number, place, need) && r.name_kind == 0 && r.name_start == 0 && r.name_length == 0 && r.version_kind == 0 && r.version_start == 0 && r.version_length == 0
            && r.tags == 0 && holds(second, no_cells, 0);
 }
 
@@ -127,20 +92,17 @@ static void requests_read(void)
     }
     CHECK(texts(request(m, 12, 3, 3), 12, 2, 1, 2, 4, 3, 1));
     CHECK(holds(second, C(128, 11, 1), 3));
-    CHECK(no_request(request(m, 12, 3, 2), 10, 0, 1, NOWHERE));
-    CHECK(no_request(request(m, 11, 3, 12), 3, 10, 0, ROW(0, 1)));
+    CHECK(no_request(request(m, 12, 3, 2), 10, 0, 1));
+    CHECK(no_request(request(m, 11, 3, 12), 3, 10, 0));
     CHECK(texts(request(B(1, 1, 0), 3, 3, 0), 3, 2, 1, 0, 2, 0, 0));
-    CHECK(no_request(request(none, 0, 3, 12), 3, 0, 0, OWN(0)));
-    CHECK(no_request(request(B(0), 1, 3, 12), 6, 0, 0, OWN(0)));
-    CHECK(no_request(request(B(1, 0), 2, 3, 12), 6, 1, 0, OWN(1)));
-    CHECK(no_request(request(B(3, 0xc0, 0x80, 1, 0), 5, 3, 12), 7, 1, 0, OWN(0)));
-    CHECK(no_request(request(B(1, 3, 'a'), 3, 3, 12), 3, 1, 0, OWN(1)));
-    /* the count of tags, and the second tag */
-    CHECK(no_request(request(B(1, 1, CONTINUES), 12, 3, 12), 5, 2, 0, OWN(2)));
-    CHECK(no_request(request(B(1, 1, 2, 5, 0, CONTINUES), 15, 3, 12), 5, 5, 0, ROW(1, 0)));
-    CHECK(no_request(request(m, 12, 4, 12), 1, 0, 0, NOWHERE));
-    CHECK(no_request(request(m, 12, -32768, 12), 1, 0, 0, NOWHERE));
-    CHECK(no_request(request(large, BEFROLAN_MOST + 1, 0, 12), 2, 0, 0, NOWHERE));
+    CHECK(no_request(request(none, 0, 3, 12), 3, 0, 0));
+    CHECK(no_request(request(B(0), 1, 3, 12), 6, 0, 0));
+    CHECK(no_request(request(B(1, 0), 2, 3, 12), 6, 1, 0));
+    CHECK(no_request(request(B(3, 0xc0, 0x80, 1, 0), 5, 3, 12), 7, 1, 0));
+    CHECK(no_request(request(B(1, 3, 'a'), 3, 3, 12), 3, 1, 0));
+    CHECK(no_request(request(m, 12, 4, 12), 1, 0, 0));
+    CHECK(no_request(request(m, 12, -32768, 12), 1, 0, 0));
+    CHECK(no_request(request(large, BEFROLAN_MOST + 1, 0, 12), 2, 0, 0));
 }
 
 /* ---- ApiVersions responses, written */
@@ -156,39 +118,29 @@ static void responses_written(void)
     const int64_t *one = C(18, 0, 3, -1), *unset = C(0, 1, 0, 0, -1);
     CHECK(USED(put_response(12, 0, none, 0, unset, one, 4, no_cells, 0), 12) && wrote(E9, 12));
     CHECK(USED(put_response(64, 0, none, 0, unset, one, 4, no_cells, 0), 12) && wrote(E9, 12));
-    CHECK(not_written(put_response(11, 0, none, 0, unset, one, 4, no_cells, 0), 10, 12, RESPONSE, NOWHERE));
+    CHECK(not_written(put_response(11, 0, none, 0, unset, one, 4, no_cells, 0), 10, 12));
     CHECK(USED(put_response(64, 1, none, 0, unset, one, 4, no_cells, 0), 16) && wrote(E10, 16));
     CHECK(USED(put_response(64, 3, none, 0, unset, one, 4, no_cells, 0), 15) && wrote(E11, 15));
     CHECK(USED(put_response(64, 1, none, 0, C(0, 0, 2, 66816, -1), no_cells, 0, no_cells, 0), 10) && wrote(E12, 10));
     CHECK(USED(put_response(64, 1, none, 0, C(0, 0, 7, 66816, -1), no_cells, 0, no_cells, 0), 10) && wrote(E12, 10));
     CHECK(USED(put_response(64, 1, none, 0, C(0, 0, 0, 66816, -1), no_cells, 0, no_cells, 0), 10) && wrote(B(0, 0, 0, 0, 0, 0, 0, 0, 0, 0), 10));
     CHECK(USED(put_response(64, 0, none, 0, C(-1, 0, 0, 0, -1), no_cells, 0, no_cells, 0), 6) && wrote(B(0xff, 0xff, 0, 0, 0, 0), 6));
-    CHECK(not_written(put_response(64, 0, none, 0, C(32768, 1, 0, 0, -1), one, 4, no_cells, 0), 11, 0, RESPONSE, OWN(0)));
-    CHECK(not_written(put_response(64, 0, none, 0, unset, C(18, 0, -32769, -1), 4, no_cells, 0), 11, 0, RESPONSE, ROW(0, 2)));
-    CHECK(not_written(put_response(64, 1, none, 0, C(0, 1, 2, INT64_C(2147483648), -1), one, 4, no_cells, 0), 11, 0, RESPONSE, OWN(2)));
+    CHECK(not_written(put_response(64, 0, none, 0, C(32768, 1, 0, 0, -1), one, 4, no_cells, 0), 11, 0));
+    CHECK(not_written(put_response(64, 0, none, 0, unset, C(18, 0, -32769, -1), 4, no_cells, 0), 11, 0));
+    CHECK(not_written(put_response(64, 1, none, 0, C(0, 1, 2, INT64_C(2147483648), -1), one, 4, no_cells, 0), 11, 0));
     CHECK(USED(put_response(64, 0, none, 0, C(0, 1, 2, INT64_C(2147483648), -1), one, 4, no_cells, 0), 12) && wrote(E9, 12));
-    /* each number of the second item; the first of two faults, in the order of the fields; tags before an item have no part in its row */
-    for (int cell = 4; cell < 7; cell++) {
-        int64_t two[8] = {18, 0, 3, -1, 3, 0, 4, -1};
-        two[cell] = 32768;
-        CHECK(not_written(put_response(64, 0, none, 0, C(0, 2, 0, 0, -1), two, 8, no_cells, 0), 11, 0, RESPONSE, ROW(1, cell - 4)));
-        two[3] = 2;
-        CHECK(not_written(put_response(64, 3, none, 0, C(0, 2, 2, INT64_MAX, -1), two, 8, C(5, 0, 0, 6, 0, 0), 6), 11, 0, RESPONSE, ROW(1, cell - 4)));
-        two[1] = -32769;
-        CHECK(not_written(put_response(64, 3, none, 0, C(0, 2, 2, INT64_MAX, -1), two, 8, C(5, 0, 0, 6, 0, 0), 6), 11, 0, RESPONSE, ROW(0, 1)));
-    }
-    CHECK(not_written(put_response(64, 0, none, 0, C(0, -1, 0, 0, -1), no_cells, 0, no_cells, 0), 13, 0, RESPONSE, NOWHERE));
-    CHECK(not_written(put_response(64, 0, none, 0, C(0, 2, 0, 0, -1), one, 4, no_cells, 0), 13, 0, RESPONSE, NOWHERE));
-    CHECK(not_written(put_response(64, 0, none, 0, C(32768, 2, 0, 0, -1), one, 4, no_cells, 0), 13, 0, RESPONSE, NOWHERE));
-    CHECK(not_written(put_response(64, 4, none, 0, C(32768, 2, 0, 0, -1), one, 4, no_cells, 0), 1, 0, RESPONSE, NOWHERE));
-    CHECK(not_written(put_response(64, -1, none, 0, unset, one, 4, no_cells, 0), 1, 0, RESPONSE, NOWHERE));
+    CHECK(not_written(put_response(64, 0, none, 0, C(0, -1, 0, 0, -1), no_cells, 0, no_cells, 0), 13, 0));
+    CHECK(not_written(put_response(64, 0, none, 0, C(0, 2, 0, 0, -1), one, 4, no_cells, 0), 13, 0));
+    CHECK(not_written(put_response(64, 0, none, 0, C(32768, 2, 0, 0, -1), one, 4, no_cells, 0), 13, 0));
+    CHECK(not_written(put_response(64, 4, none, 0, C(32768, 2, 0, 0, -1), one, 4, no_cells, 0), 1, 0));
+    CHECK(not_written(put_response(64, -1, none, 0, unset, one, 4, no_cells, 0), 1, 0));
 
     const int64_t *row = C(0, 1, 2, 9, 1), *item = C(3, 0, 4, 1), *tags = C(7, 12, 2, 1, 21, 0);
     CHECK(USED(put_response(21, 3, TAGGED, 21, row, item, 4, tags, 6), 21) && wrote(TAGGED, 21));
-    CHECK(not_written(put_response(20, 3, TAGGED, 21, row, item, 4, tags, 6), 10, 21, RESPONSE, NOWHERE));
+    CHECK(not_written(put_response(20, 3, TAGGED, 21, row, item, 4, tags, 6), 10, 21));
     CHECK(USED(put_response(64, 0, TAGGED, 21, row, item, 4, tags, 6), 12) && wrote(B(0, 0, 0, 0, 0, 1, 0, 3, 0, 0, 0, 4), 12));
-    CHECK(not_written(put_response(64, 0, TAGGED, 20, row, item, 4, tags, 6), 13, 0, RESPONSE, NOWHERE));
-    CHECK(not_written(put_response(64, 3, TAGGED, 21, row, item, 4, tags, 3), 13, 0, RESPONSE, NOWHERE));
+    CHECK(not_written(put_response(64, 0, TAGGED, 20, row, item, 4, tags, 6), 13, 0));
+    CHECK(not_written(put_response(64, 3, TAGGED, 21, row, item, 4, tags, 3), 13, 0));
 }
 
 /* ---- ApiVersions requests, written */
@@ -205,18 +157,16 @@ static void requests_written(void)
     const int64_t *row = C(2, 0, 2, 2, 2, 3, 1), *tag = C(128, 5, 1);
     CHECK(USED(put_request(12, 3, lent, 6, row, tag, 3), 12) && wrote(m, 12));
     CHECK(USED(put_request(12, 3, lent, 6, C(1, 0, 2, -1, 2, 3, 1), tag, 3), 12) && wrote(m, 12));
-    CHECK(not_written(put_request(11, 3, lent, 6, row, tag, 3), 10, 12, REQUEST, NOWHERE));
+    CHECK(not_written(put_request(11, 3, lent, 6, row, tag, 3), 10, 12));
     for (int64_t v = 0; v < 3; v++)
         CHECK(USED(put_request(0, v, lent, 6, row, tag, 3), 0) && wrote(none, 0));
     CHECK(USED(put_request(64, 3, lent, 6, C(0, 9, 9, 0, 9, 9, -1), no_cells, 0), 3) && wrote(B(1, 1, 0), 3));
-    CHECK(not_written(put_request(64, 3, lent, 6, C(2, 4, 3, 0, 0, 0, -1), no_cells, 0), 13, 0, REQUEST, NOWHERE));
-    CHECK(not_written(put_request(64, 0, lent, 6, C(0, 0, 0, 2, 4, 3, -1), no_cells, 0), 13, 0, REQUEST, NOWHERE));
-    CHECK(not_written(put_request(64, 3, lent, 6, C(0, 0, 0, 0, 0, 0, 1), no_cells, 0), 13, 0, REQUEST, NOWHERE));
-    CHECK(not_written(put_request(64, 3, lent, 6, C(2, 5, 1, 0, 0, 0, 0), no_cells, 0), 7, 0, REQUEST, OWN(0)));
-    CHECK(not_written(put_request(64, 3, lent, 6, C(0, 0, 0, 2, 5, 1, 0), no_cells, 0), 7, 0, REQUEST, OWN(1)));
-    CHECK(not_written(put_request(64, 3, lent, 6, C(2, 4, 2, 2, 5, 1, 0), no_cells, 0), 7, 0, REQUEST, OWN(0)));
+    CHECK(not_written(put_request(64, 3, lent, 6, C(2, 4, 3, 0, 0, 0, -1), no_cells, 0), 13, 0));
+    CHECK(not_written(put_request(64, 0, lent, 6, C(0, 0, 0, 2, 4, 3, -1), no_cells, 0), 13, 0));
+    CHECK(not_written(put_request(64, 3, lent, 6, C(0, 0, 0, 0, 0, 0, 1), no_cells, 0), 13, 0));
+    CHECK(not_written(put_request(64, 3, lent, 6, C(2, 5, 1, 0, 0, 0, 0), no_cells, 0), 7, 0));
     CHECK(USED(put_request(64, 0, lent, 6, C(2, 5, 1, 0, 0, 0, 0), no_cells, 0), 0) && wrote(none, 0));
-    CHECK(not_written(put_request(64, 4, lent, 6, row, tag, 3), 1, 0, REQUEST, NOWHERE));
+    CHECK(not_written(put_request(64, 4, lent, 6, row, tag, 3), 1, 0));
 }
 
 /* ---- agreement */
@@ -241,7 +191,6 @@ static void agreements(void)
 void api_versions(void)
 {
     responses_read();
-    responses_cut();
     requests_read();
     responses_written();
     requests_written();

@@ -17,25 +17,20 @@ static befrolan_numbers put_fetch(size_t room, asked q)
     return befrolan_write_fetch_request(out(), room, q.version, q.lent, q.size, q.row, q.topics, q.topic_cells, q.partitions, q.partition_cells);
 }
 
-static int no_fetch(befrolan_numbers r, int64_t number, int64_t need, int64_t row, int64_t field)
-{
-    return not_written(r, number, need, BEFROLAN_MESSAGE_FETCH_REQUEST, row, field);
-}
-
 /* `n` bytes at the front of the output: in more room, in just enough; refused in a byte less, and in none */
 static void asks(int line, asked q, const uint8_t *bytes, size_t n)
 {
     check(__FILE__, line, "in more room", USED(put_fetch(n + 32, q), (int64_t)n) && wrote(bytes, n));
     check(__FILE__, line, "in just enough", USED(put_fetch(n, q), (int64_t)n) && wrote(bytes, n));
-    check(__FILE__, line, "in a byte less", no_fetch(put_fetch(n - 1, q), 10, (int64_t)n, NOWHERE));
-    check(__FILE__, line, "in no room", no_fetch(put_fetch(0, q), 10, (int64_t)n, NOWHERE));
+    check(__FILE__, line, "in a byte less", not_written(put_fetch(n - 1, q), 10, (int64_t)n));
+    check(__FILE__, line, "in no room", not_written(put_fetch(0, q), 10, (int64_t)n));
 }
 
-/* refused with `number` in that row and field, in room and without any */
-static void denies(int line, asked q, int64_t number, int64_t row, int64_t field)
+/* refused with `number`, in room and without any */
+static void denies(int line, asked q, int64_t number)
 {
-    check(__FILE__, line, "in room", no_fetch(put_fetch(BYTES, q), number, 0, row, field));
-    check(__FILE__, line, "in no room", no_fetch(put_fetch(0, q), number, 0, row, field));
+    check(__FILE__, line, "in room", not_written(put_fetch(BYTES, q), number, 0));
+    check(__FILE__, line, "in no room", not_written(put_fetch(0, q), number, 0));
 }
 
 /* Lent: "a", "bc", U+00E9, U+10FFFF, a zero byte; from 10 on bytes that are no text. */
@@ -43,7 +38,7 @@ static const uint8_t lent[19] = {'a', 'b', 'c', 0xc3, 0xa9, 0xf4, 0x8f, 0xbf, 0x
 
 #define ASKED(v, row, t, tn, p, pn) ((asked){v, lent, sizeof lent, row, t, tn, p, pn})
 #define ASKS(v, row, t, tn, p, pn, ...) asks(__LINE__, ASKED(v, row, t, tn, p, pn), B(__VA_ARGS__), LEN(__VA_ARGS__))
-#define DENIES(v, number, where, row, t, tn, p, pn) denies(__LINE__, ASKED(v, row, t, tn, p, pn), number, where)
+#define DENIES(v, number, row, t, tn, p, pn) denies(__LINE__, ASKED(v, row, t, tn, p, pn), number)
 
 /* replica -1, max wait 500, min bytes 1; with everything unset, and as bytes */
 #define UNSET(n) C(-1, 500, 1, 0, 0, 0, 0, n)
@@ -68,8 +63,8 @@ static void requests_written(void)
     ASKS(4, UNSET(0), no_cells, 0, no_cells, 0, 0xff, 0xff, 0xff, 0xff, 0, 0, 1, 0xf4, 0, 0, 0, 1, 0x7f, 0xff, 0xff, 0xff, 0, 0, 0, 0, 0);
     asks(__LINE__, (asked){0, B(0x63, 0x61, 0x62), 3, C(-1, 0, 1, 0, 0, 0, 0, 1), C(1, 2, 1), 3, C(3, 256, 1), 3},
          B(NONE, COUNT(0), COUNT(1), COUNT(1), 0, 2, 0x61, 0x62, COUNT(1), COUNT(3), 0, 0, 0, 0, 0, 0, 1, 0, COUNT(1)), 40);
-    denies(__LINE__, (asked){0, B(0x63, 0x61, 0x62), 3, C(-1, 0, 1, 0, 0, 0, 0, 1), C(1, 2, 2), 3, C(3, 256, 1), 3}, 13, NOWHERE);
-    denies(__LINE__, (asked){0, B(0x63, 0x61, 0x62), 3, C(-1, 0, 1, 0, 0, 0, 0, 1), C(2, 2, 1), 3, C(3, 256, 1), 3}, 13, NOWHERE);
+    denies(__LINE__, (asked){0, B(0x63, 0x61, 0x62), 3, C(-1, 0, 1, 0, 0, 0, 0, 1), C(1, 2, 2), 3, C(3, 256, 1), 3}, 13);
+    denies(__LINE__, (asked){0, B(0x63, 0x61, 0x62), 3, C(-1, 0, 1, 0, 0, 0, 0, 1), C(2, 2, 1), 3, C(3, 256, 1), 3}, 13);
     EACH(UNSET(0), no_cells, 0, no_cells, 0, MOST32, 0, COUNT(0));
     EACH(UNSET(2), both, 6, three, 9, MOST32, 0, COUNT(2), WANTED_A, WANTED_BC);
     /* set, with any kind but 0; unset, with a number that is not looked at */
@@ -108,9 +103,9 @@ static void numbers_refused(void)
 {
     for (int64_t v = 0; v < 5; v++)
         for (int i = 0; i < 5; i++) {
-            DENIES(v, 11, OWN(0), C(too_wide[i], 500, 1, 0, 0, 0, 0, 0), no_cells, 0, no_cells, 0);
-            DENIES(v, 11, OWN(1), C(-1, too_wide[i], 1, 0, 0, 0, 0, 0), no_cells, 0, no_cells, 0);
-            DENIES(v, 11, OWN(2), C(-1, 500, too_wide[i], 0, 0, 0, 0, 0), no_cells, 0, no_cells, 0);
+            DENIES(v, 11, C(too_wide[i], 500, 1, 0, 0, 0, 0, 0), no_cells, 0, no_cells, 0);
+            DENIES(v, 11, C(-1, too_wide[i], 1, 0, 0, 0, 0, 0), no_cells, 0, no_cells, 0);
+            DENIES(v, 11, C(-1, 500, too_wide[i], 0, 0, 0, 0, 0), no_cells, 0, no_cells, 0);
             /* the index and the most bytes of each partition */
             for (int cell = 0; cell < 9; cell++) {
                 if (cell % 3 == 1)
@@ -118,7 +113,7 @@ static void numbers_refused(void)
                 int64_t rows[9];
                 memcpy(rows, three, sizeof rows);
                 rows[cell] = too_wide[i];
-                DENIES(v, 11, ROW(cell / 3, cell % 3), UNSET(2), both, 6, rows, 9);
+                DENIES(v, 11, UNSET(2), both, 6, rows, 9);
             }
         }
     /* max bytes from 3 on; dropped below */
@@ -126,8 +121,8 @@ static void numbers_refused(void)
         const int64_t *row = C(-1, 500, 1, 2, too_wide[i], 0, 0, 0);
         for (int64_t v = 0; v < 3; v++)
             ASKS(v, row, no_cells, 0, no_cells, 0, HEAD, COUNT(0));
-        DENIES(3, 11, OWN(3), row, no_cells, 0, no_cells, 0);
-        DENIES(4, 11, OWN(3), row, no_cells, 0, no_cells, 0);
+        DENIES(3, 11, row, no_cells, 0, no_cells, 0);
+        DENIES(4, 11, row, no_cells, 0, no_cells, 0);
     }
     /* the isolation level at 4; dropped below */
     for (int i = 0; i < 7; i++) {
@@ -135,8 +130,8 @@ static void numbers_refused(void)
         for (int64_t v = 0; v < 3; v++)
             ASKS(v, row, no_cells, 0, no_cells, 0, HEAD, COUNT(0));
         ASKS(3, row, no_cells, 0, no_cells, 0, HEAD, MOST32, COUNT(0));
-        DENIES(4, 11, OWN(4), row, no_cells, 0, no_cells, 0);
-        DENIES(4, 11, OWN(4), C(-1, 500, 1, 0, 0, 1, levels[i], 0), no_cells, 0, no_cells, 0);
+        DENIES(4, 11, row, no_cells, 0, no_cells, 0);
+        DENIES(4, 11, C(-1, 500, 1, 0, 0, 1, levels[i], 0), no_cells, 0, no_cells, 0);
     }
 }
 
@@ -148,38 +143,38 @@ static void tables_refused(void)
     for (int64_t v = 0; v < 5; v++) {
         /* the topics' count: other than the two rows there are, null, below null */
         for (int i = 0; i < 8; i++)
-            DENIES(v, 13, NOWHERE, UNSET(counts[i]), both, 6, three, 9);
+            DENIES(v, 13, UNSET(counts[i]), both, 6, three, 9);
         for (int i = 1; i < 8; i++)
-            DENIES(v, 13, NOWHERE, UNSET(counts[i]), no_cells, 0, no_cells, 0);
-        DENIES(v, 13, NOWHERE, UNSET(2), both, 5, three, 9);
-        DENIES(v, 13, NOWHERE, UNSET(1), both, 5, three, 9);
+            DENIES(v, 13, UNSET(counts[i]), no_cells, 0, no_cells, 0);
+        DENIES(v, 13, UNSET(2), both, 5, three, 9);
+        DENIES(v, 13, UNSET(1), both, 5, three, 9);
         /* the partitions' counts: other than the three rows there are, null, below null; sums do not wrap */
         for (int i = 0; i < 10; i++)
-            DENIES(v, 13, NOWHERE, UNSET(2), C(0, 1, sums[i][0], 1, 2, sums[i][1]), 6, three, 9);
-        DENIES(v, 13, NOWHERE, UNSET(3), C(0, 1, INT64_MAX, 0, 1, INT64_MAX, 0, 1, 5), 9, three, 9);
-        DENIES(v, 13, NOWHERE, UNSET(1), C(0, 1, -1), 3, no_cells, 0);
-        DENIES(v, 13, NOWHERE, UNSET(2), both, 6, three, 8);
-        DENIES(v, 13, NOWHERE, UNSET(2), both, 6, three, 6);
-        DENIES(v, 13, NOWHERE, UNSET(2), both, 6, C(0, 0, 0, 0, 0, 0, 0, 0, 0, 0, 0, 0), 12);
-        DENIES(v, 13, NOWHERE, UNSET(0), no_cells, 0, three, 3);
+            DENIES(v, 13, UNSET(2), C(0, 1, sums[i][0], 1, 2, sums[i][1]), 6, three, 9);
+        DENIES(v, 13, UNSET(3), C(0, 1, INT64_MAX, 0, 1, INT64_MAX, 0, 1, 5), 9, three, 9);
+        DENIES(v, 13, UNSET(1), C(0, 1, -1), 3, no_cells, 0);
+        DENIES(v, 13, UNSET(2), both, 6, three, 8);
+        DENIES(v, 13, UNSET(2), both, 6, three, 6);
+        DENIES(v, 13, UNSET(2), both, 6, C(0, 0, 0, 0, 0, 0, 0, 0, 0, 0, 0, 0), 12);
+        DENIES(v, 13, UNSET(0), no_cells, 0, three, 3);
         /* names outside what is lent, of the first topic and of the second; sums do not wrap */
         for (int i = 0; i < 10; i++) {
-            DENIES(v, 13, NOWHERE, UNSET(2), C(outside[i][0], outside[i][1], 2, 1, 2, 1), 6, three, 9);
-            DENIES(v, 13, NOWHERE, UNSET(2), C(0, 1, 2, outside[i][0], outside[i][1], 1), 6, three, 9);
+            DENIES(v, 13, UNSET(2), C(outside[i][0], outside[i][1], 2, 1, 2, 1), 6, three, 9);
+            DENIES(v, 13, UNSET(2), C(0, 1, 2, outside[i][0], outside[i][1], 1), 6, three, 9);
         }
-        denies(__LINE__, (asked){v, none, 0, UNSET(1), C(0, 1, 0), 3, no_cells, 0}, 13, NOWHERE);
+        denies(__LINE__, (asked){v, none, 0, UNSET(1), C(0, 1, 0), 3, no_cells, 0}, 13);
         /* before numbers that are too wide and names that are no text, wherever they stand */
-        DENIES(v, 13, NOWHERE, C(too_wide[0], 500, 1, 2, too_wide[0], 2, 2, 1), C(18, 2, 0), 3, no_cells, 0);
-        DENIES(v, 13, NOWHERE, UNSET(2), C(10, 2, 0, 20, 0, 0), 6, no_cells, 0);
-        DENIES(v, 13, NOWHERE, UNSET(2), C(10, 2, 1, 0, 1, 1), 6, C(too_wide[0], 0, too_wide[0]), 3);
+        DENIES(v, 13, C(too_wide[0], 500, 1, 2, too_wide[0], 2, 2, 1), C(18, 2, 0), 3, no_cells, 0);
+        DENIES(v, 13, UNSET(2), C(10, 2, 0, 20, 0, 0), 6, no_cells, 0);
+        DENIES(v, 13, UNSET(2), C(10, 2, 1, 0, 1, 1), 6, C(too_wide[0], 0, too_wide[0]), 3);
     }
     /* the version comes before the tables */
     static const int64_t others[4] = {-1, 5, -32768, 32767};
     for (int i = 0; i < 4; i++) {
-        DENIES(others[i], 1, NOWHERE, UNSET(2), both, 6, three, 9);
-        DENIES(others[i], 1, NOWHERE, UNSET(0), no_cells, 0, no_cells, 0);
-        DENIES(others[i], 1, NOWHERE, UNSET(1), C(18, 2, 0), 3, no_cells, 0);
-        DENIES(others[i], 1, NOWHERE, C(too_wide[0], 500, 1, 0, 0, 0, 0, -2), no_cells, 0, no_cells, 0);
+        DENIES(others[i], 1, UNSET(2), both, 6, three, 9);
+        DENIES(others[i], 1, UNSET(0), no_cells, 0, no_cells, 0);
+        DENIES(others[i], 1, UNSET(1), C(18, 2, 0), 3, no_cells, 0);
+        DENIES(others[i], 1, C(too_wide[0], 500, 1, 0, 0, 0, 0, -2), no_cells, 0, no_cells, 0);
     }
 }
 
@@ -190,40 +185,33 @@ static void order_of_fields(void)
     for (int64_t v = 0; v < 5; v++) {
         /* names that are no text, of the first topic and of the second */
         for (int i = 0; i < 8; i++) {
-            DENIES(v, 7, ROW(0, 0), UNSET(2), C(ill[i][0], ill[i][1], 2, 1, 2, 1), 6, three, 9);
-            DENIES(v, 7, ROW(1, 0), UNSET(2), C(0, 1, 2, ill[i][0], ill[i][1], 1), 6, three, 9);
+            DENIES(v, 7, UNSET(2), C(ill[i][0], ill[i][1], 2, 1, 2, 1), 6, three, 9);
+            DENIES(v, 7, UNSET(2), C(0, 1, 2, ill[i][0], ill[i][1], 1), 6, three, 9);
         }
         /* a topic's name before its partitions, and its partitions before the next name */
-        DENIES(v, 7, ROW(0, 0), UNSET(1), C(10, 2, 1), 3, wide_first, 3);
-        DENIES(v, 7, ROW(1, 0), UNSET(2), C(0, 1, 0, 10, 2, 1), 6, wide_first, 3);
-        DENIES(v, 11, ROW(0, 0), UNSET(2), C(0, 1, 1, 10, 2, 0), 6, wide_first, 3);
-        DENIES(v, 11, ROW(1, 2), UNSET(2), C(0, 1, 2, 10, 2, 0), 6, wide_last, 6);
-        DENIES(v, 7, ROW(1, 0), UNSET(2), C(0, 1, 1, 10, 2, 1), 6, wide_last, 6);
-        DENIES(v, 7, ROW(1, 0), UNSET(3), C(0, 1, 0, 10, 2, 0, 0, 1, 1), 9, wide_first, 3);
-        DENIES(v, 11, ROW(0, 0), UNSET(3), C(0, 1, 0, 0, 1, 1, 10, 2, 0), 9, wide_first, 3);
+        DENIES(v, 7, UNSET(1), C(10, 2, 1), 3, wide_first, 3);
+        DENIES(v, 7, UNSET(2), C(0, 1, 0, 10, 2, 1), 6, wide_first, 3);
+        DENIES(v, 11, UNSET(2), C(0, 1, 1, 10, 2, 0), 6, wide_first, 3);
+        DENIES(v, 11, UNSET(2), C(0, 1, 2, 10, 2, 0), 6, wide_last, 6);
+        DENIES(v, 7, UNSET(2), C(0, 1, 1, 10, 2, 1), 6, wide_last, 6);
+        DENIES(v, 7, UNSET(3), C(0, 1, 0, 10, 2, 0, 0, 1, 1), 9, wide_first, 3);
+        DENIES(v, 11, UNSET(3), C(0, 1, 0, 0, 1, 1, 10, 2, 0), 9, wide_first, 3);
         /* what stands before the topics comes first; what the version drops is not looked at */
-        DENIES(v, 11, OWN(0), C(too_wide[0], 500, 1, 0, 0, 0, 0, 1), C(10, 2, 0), 3, no_cells, 0);
-        DENIES(v, 11, OWN(1), C(-1, too_wide[0], 1, 0, 0, 0, 0, 1), C(10, 2, 0), 3, no_cells, 0);
-        DENIES(v, 11, OWN(2), C(-1, 500, too_wide[0], 0, 0, 0, 0, 1), C(10, 2, 0), 3, no_cells, 0);
-        const int64_t *most = C(-1, 500, 1, 2, too_wide[0], 0, 0, 1), *level = C(-1, 500, 1, 0, 0, 2, 2, 1);
-        if (v < 3)
-            DENIES(v, 7, ROW(0, 0), most, C(10, 2, 0), 3, no_cells, 0);
-        else
-            DENIES(v, 11, OWN(3), most, C(10, 2, 0), 3, no_cells, 0);
-        if (v < 4)
-            DENIES(v, 7, ROW(0, 0), level, C(10, 2, 0), 3, no_cells, 0);
-        else
-            DENIES(v, 11, OWN(4), level, C(10, 2, 0), 3, no_cells, 0);
-        DENIES(v, 7, ROW(0, 0), C(-1, 500, 1, 0, too_wide[0], 0, 2, 1), C(10, 2, 0), 3, no_cells, 0);
+        DENIES(v, 11, C(too_wide[0], 500, 1, 0, 0, 0, 0, 1), C(10, 2, 0), 3, no_cells, 0);
+        DENIES(v, 11, C(-1, too_wide[0], 1, 0, 0, 0, 0, 1), C(10, 2, 0), 3, no_cells, 0);
+        DENIES(v, 11, C(-1, 500, too_wide[0], 0, 0, 0, 0, 1), C(10, 2, 0), 3, no_cells, 0);
+        DENIES(v, v < 3 ? 7 : 11, C(-1, 500, 1, 2, too_wide[0], 0, 0, 1), C(10, 2, 0), 3, no_cells, 0);
+        DENIES(v, v < 4 ? 7 : 11, C(-1, 500, 1, 0, 0, 2, 2, 1), C(10, 2, 0), 3, no_cells, 0);
+        DENIES(v, 7, C(-1, 500, 1, 0, too_wide[0], 0, 2, 1), C(10, 2, 0), 3, no_cells, 0);
         /* too long a name: before it is looked at as a text, and in its place among the names */
         static uint8_t ff[32768];
         memset(ff, 0xff, sizeof ff);
-        denies(__LINE__, (asked){v, ff, 32768, UNSET(1), C(0, 32768, 0), 3, no_cells, 0}, 11, ROW(0, 0));
-        denies(__LINE__, (asked){v, ff, 32768, UNSET(1), C(0, 32767, 0), 3, no_cells, 0}, 7, ROW(0, 0));
-        denies(__LINE__, (asked){v, ff, 32768, UNSET(2), C(0, 1, 0, 0, 32768, 0), 6, no_cells, 0}, 7, ROW(0, 0));
-        denies(__LINE__, (asked){v, ff, 32768, UNSET(2), C(0, 32768, 0, 0, 1, 0), 6, no_cells, 0}, 11, ROW(0, 0));
-        denies(__LINE__, (asked){v, ff, 32768, UNSET(2), C(0, 32768, 0, 0, 32769, 0), 6, no_cells, 0}, 13, NOWHERE);
-        denies(__LINE__, (asked){v, large, 32768, UNSET(1), C(0, 32768, 0), 3, no_cells, 0}, 11, ROW(0, 0));
+        denies(__LINE__, (asked){v, ff, 32768, UNSET(1), C(0, 32768, 0), 3, no_cells, 0}, 11);
+        denies(__LINE__, (asked){v, ff, 32768, UNSET(1), C(0, 32767, 0), 3, no_cells, 0}, 7);
+        denies(__LINE__, (asked){v, ff, 32768, UNSET(2), C(0, 1, 0, 0, 32768, 0), 6, no_cells, 0}, 7);
+        denies(__LINE__, (asked){v, ff, 32768, UNSET(2), C(0, 32768, 0, 0, 1, 0), 6, no_cells, 0}, 11);
+        denies(__LINE__, (asked){v, ff, 32768, UNSET(2), C(0, 32768, 0, 0, 32769, 0), 6, no_cells, 0}, 13);
+        denies(__LINE__, (asked){v, large, 32768, UNSET(1), C(0, 32768, 0), 3, no_cells, 0}, 11);
     }
 }
 
@@ -283,19 +271,19 @@ static void hundred_partitions(void)
         /* 16 in front, 6 and a name for each topic, 16 for each partition */
         asks_laid(__LINE__, q, 1689 + extra[v]);
         q.partition_cells = 299;
-        denies(__LINE__, q, 13, NOWHERE);
+        denies(__LINE__, q, 13);
         q.partition_cells = 300;
         /* the last number of all */
         partitions[299] = too_wide[0];
-        denies(__LINE__, q, 11, ROW(99, 2));
+        denies(__LINE__, q, 11);
         partitions[299] = 0;
         /* the fifth name is no text: behind the partitions 0 to 39, before partition 40 */
         memcpy(topics + 12, C(5, 1), 2 * sizeof(int64_t));
-        denies(__LINE__, q, 7, ROW(4, 0));
+        denies(__LINE__, q, 7);
         partitions[3 * 40] = too_wide[0];
-        denies(__LINE__, q, 7, ROW(4, 0));
+        denies(__LINE__, q, 7);
         partitions[3 * 39] = too_wide[0];
-        denies(__LINE__, q, 11, ROW(39, 0));
+        denies(__LINE__, q, 11);
         partitions[3 * 39] = 39;
         partitions[3 * 40] = 40;
         memcpy(topics + 12, C(1, 0), 2 * sizeof(int64_t));
@@ -317,15 +305,15 @@ static void longest(void)
         asked q = {v, large, 32767, UNSET(32), names, 96, no_cells, 0};
         asks_laid(__LINE__, q, BEFROLAN_MOST);
         names[94]++;
-        denies(__LINE__, q, 2, NOWHERE);
+        denies(__LINE__, q, 2);
         /* 11, 7 and 13 come before 2 */
         q.row = C(too_wide[0], 500, 1, 0, 0, 0, 0, 32);
-        denies(__LINE__, q, 11, OWN(0));
+        denies(__LINE__, q, 11);
         q.row = UNSET(33);
-        denies(__LINE__, q, 13, NOWHERE);
+        denies(__LINE__, q, 13);
         q.row = UNSET(32);
         large[32766] = 0xff;
-        denies(__LINE__, q, 7, ROW(0, 0));
+        denies(__LINE__, q, 7);
         large[32766] = 0;
 
         /* the most bytes, in partitions: 16 + 6 + 10 + 65,534 * 16 */
@@ -334,9 +322,9 @@ static void longest(void)
         q = (asked){v, large, 11, UNSET(1), C(0, 10 - extra[v], 65534), 3, partitions, 3 * 65534};
         asks_laid(__LINE__, q, BEFROLAN_MOST);
         q.topics = C(0, 11 - extra[v], 65534);
-        denies(__LINE__, q, 2, NOWHERE);
+        denies(__LINE__, q, 2);
         partitions[3 * 65533] = too_wide[0];
-        denies(__LINE__, q, 11, ROW(65533, 0));
+        denies(__LINE__, q, 11);
     }
 }
 

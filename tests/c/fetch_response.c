@@ -25,24 +25,11 @@ static const uint8_t F1[] = {COUNT(7), COUNT(2), NAME_T, COUNT(2), PARTITION_0, 
 static const uint8_t F4[] = {NONE, COUNT(2), NAME_T, COUNT(2), PARTITION_0, ABORTED_0, RECORDS, PARTITION_1, ABORTED_1, COUNT(0),
                              NAME_UV, COUNT(1), PARTITION_7, ABORTED_7, NONE};
 
-/* Where their primitives start, with their rows and fields. Own fields: topics; from 1 on the throttle time before them. A topic:
- * name, number of partitions. A partition: index, error, high watermark, records; at 4 the last stable offset and the number of
- * aborted transactions before the records. An aborted transaction: producer, first offset. */
-#define TOPICS_AT(s) \
-    {s, ROW(0, 0)}, {s + 3, ROW(0, 1)}, {s + 7, ROW(0, 0)}, {s + 11, ROW(0, 1)}, {s + 13, ROW(0, 2)}, {s + 21, ROW(0, 3)}, \
-    {s + 28, ROW(1, 0)}, {s + 32, ROW(1, 1)}, {s + 34, ROW(1, 2)}, {s + 42, ROW(1, 3)}, \
-    {s + 46, ROW(1, 0)}, {s + 50, ROW(1, 1)}, {s + 54, ROW(2, 0)}, {s + 58, ROW(2, 1)}, {s + 60, ROW(2, 2)}, {s + 68, ROW(2, 3)}
-static const primitive starts0[] = {{0, OWN(0)}, TOPICS_AT(4), {76, NOWHERE}};
-static const primitive starts1[] = {{0, OWN(0)}, {4, OWN(1)}, TOPICS_AT(8), {80, NOWHERE}};
-static const primitive starts4[] = {
-    {0, OWN(0)}, {4, OWN(1)}, {8, ROW(0, 0)}, {11, ROW(0, 1)},
-    {15, ROW(0, 0)}, {19, ROW(0, 1)}, {21, ROW(0, 2)}, {29, ROW(0, 3)}, {37, ROW(0, 4)},
-    {41, ROW(0, 0)}, {49, ROW(0, 1)}, {57, ROW(1, 0)}, {65, ROW(1, 1)}, {73, ROW(0, 5)},
-    {80, ROW(1, 0)}, {84, ROW(1, 1)}, {86, ROW(1, 2)}, {94, ROW(1, 3)}, {102, ROW(1, 4)}, {106, ROW(1, 5)},
-    {110, ROW(1, 0)}, {114, ROW(1, 1)},
-    {118, ROW(2, 0)}, {122, ROW(2, 1)}, {124, ROW(2, 2)}, {132, ROW(2, 3)}, {140, ROW(2, 4)}, {144, ROW(2, 0)}, {152, ROW(2, 1)}, {160, ROW(2, 5)},
-    {164, NOWHERE}};
-#define COUNTED(starts) starts, sizeof starts / sizeof starts[0]
+/* where their primitives start; a text, a byte string and its length are one */
+static const uint8_t starts0[] = {0, 4, 7, 11, 15, 17, 25, 32, 36, 38, 46, 50, 54, 58, 62, 64, 72, 76};
+static const uint8_t starts1[] = {0, 4, 8, 11, 15, 19, 21, 29, 36, 40, 42, 50, 54, 58, 62, 66, 68, 76, 80};
+static const uint8_t starts4[] = {0, 4, 8, 11, 15, 19, 21, 29, 37, 41, 49, 57, 65, 73, 80, 84, 86, 94, 102, 106, 110, 114, 118, 122, 124, 132, 140,
+                                  144, 152, 160, 164};
 
 /* the rows of the topics, by the starts of their names; those of the partitions below 4, by the starts of their records */
 #define SHIFTED(t, u) {t, 1, 2, u, 2, 1}
@@ -50,18 +37,16 @@ static const primitive starts4[] = {
 
 /* own row: throttle time (kind, number), topics */
 static const struct {
-    const uint8_t *bytes;
-    size_t size;
-    const primitive *starts;
-    size_t primitives;
+    const uint8_t *bytes, *starts;
+    size_t size, primitives;
     int64_t own[3], topics[6], partitions[21], aborted[6];
     size_t needs[3];
 } bodies[5] = {
-    {F0, 76, COUNTED(starts0), {0, 0, 2}, SHIFTED(6, 52), BARE(29, 50, 76), {0}, {2, 3, 0}},
-    {F1, 80, COUNTED(starts1), {2, 7, 2}, SHIFTED(10, 56), BARE(33, 54, 80), {0}, {2, 3, 0}},
-    {F1, 80, COUNTED(starts1), {2, 7, 2}, SHIFTED(10, 56), BARE(33, 54, 80), {0}, {2, 3, 0}},
-    {F1, 80, COUNTED(starts1), {2, 7, 2}, SHIFTED(10, 56), BARE(33, 54, 80), {0}, {2, 3, 0}},
-    {F4, 164, COUNTED(starts4), {2, -1, 2}, SHIFTED(10, 112),
+    {F0, starts0, 76, sizeof starts0, {0, 0, 2}, SHIFTED(6, 52), BARE(29, 50, 76), {0}, {2, 3, 0}},
+    {F1, starts1, 80, sizeof starts1, {2, 7, 2}, SHIFTED(10, 56), BARE(33, 54, 80), {0}, {2, 3, 0}},
+    {F1, starts1, 80, sizeof starts1, {2, 7, 2}, SHIFTED(10, 56), BARE(33, 54, 80), {0}, {2, 3, 0}},
+    {F1, starts1, 80, sizeof starts1, {2, 7, 2}, SHIFTED(10, 56), BARE(33, 54, 80), {0}, {2, 3, 0}},
+    {F4, starts4, 164, sizeof starts4, {2, -1, 2}, SHIFTED(10, 112),
      {0, 0, 5, 4, 2, 77, 3, 1, 3, -1, -2, 0, 110, 0, 7, -1, BIG, 2, 1, 164, 0}, {6, 3, -1, INT64_C(4294967296), 8, 9}, {2, 3, 3}},
 };
 
@@ -98,9 +83,9 @@ static int whole(befrolan_fetch_numbers r, int64_t v)
     return own(r, (int64_t)bodies[v].size, row[0], row[1], row[2]) && filled(bodies[v].topics, 6, bodies[v].partitions, 21, bodies[v].aborted, v < 4 ? 0 : 6);
 }
 
-static int no_answer(befrolan_fetch_numbers r, int64_t number, int64_t place, int64_t need, int64_t row, int64_t field)
+static int no_answer(befrolan_fetch_numbers r, int64_t number, int64_t place, int64_t need)
 {
-    return REFUSED(r, number, place, need, BEFROLAN_MESSAGE_FETCH_RESPONSE, row, field) && r.throttle_kind == 0 && r.throttle == 0 && r.topics == 0 && unfilled();
+    return REFUSED(r, number, place, need) && r.throttle_kind == 0 && r.throttle == 0 && r.topics == 0 && unfilled();
 }
 
 /* bytes that are taken, all of them, in just the room that the rows need */
@@ -109,9 +94,9 @@ static int no_answer(befrolan_fetch_numbers r, int64_t number, int64_t place, in
           && filled(t, tn, p, pn, a, an))
 
 /* bytes that are refused, with room and without any */
-#define BAD(v, number, place, where, ...) \
-    CHECK(no_answer(answer(B(__VA_ARGS__), LEN(__VA_ARGS__), v, ample), number, place, 0, where)); \
-    CHECK(no_answer(answer(B(__VA_ARGS__), LEN(__VA_ARGS__), v, no_room), number, place, 0, where))
+#define BAD(v, number, place, ...) \
+    CHECK(no_answer(answer(B(__VA_ARGS__), LEN(__VA_ARGS__), v, ample), number, place, 0)); \
+    CHECK(no_answer(answer(B(__VA_ARGS__), LEN(__VA_ARGS__), v, no_room), number, place, 0))
 
 /* each table by itself too small: by a row, by a cell, and together with those behind it */
 static void short_of_room(int64_t v, const size_t *exact)
@@ -129,24 +114,23 @@ static void short_of_room(int64_t v, const size_t *exact)
         if (need == 0)
             continue;
         cut[t] -= 2;
-        CHECK(no_answer(answer(m, n, v, cut), 10, 0, need, NOWHERE));
+        CHECK(no_answer(answer(m, n, v, cut), 10, 0, need));
         room[t] -= wide[t];
-        CHECK(no_answer(answer(m, n, v, room), 10, 0, need, NOWHERE));
+        CHECK(no_answer(answer(m, n, v, room), 10, 0, need));
         room[t] = 0;
-        CHECK(no_answer(answer(m, n, v, room), 10, 0, need, NOWHERE));
+        CHECK(no_answer(answer(m, n, v, room), 10, 0, need));
         /* the first that is too small is told, not one behind it */
         for (int u = t + 1; u < 3; u++)
             room[u] = 0;
-        CHECK(no_answer(answer(m, n, v, room), 10, 0, need, NOWHERE));
+        CHECK(no_answer(answer(m, n, v, room), 10, 0, need));
     }
-    CHECK(no_answer(answer(m, n, v, no_room), 10, 0, 2, NOWHERE));
+    CHECK(no_answer(answer(m, n, v, no_room), 10, 0, 2));
 }
 
 static void bodies_read(void)
 {
     for (int64_t v = 0; v < 5; v++) {
-        const uint8_t *m = bodies[v].bytes;
-        const primitive *p = bodies[v].starts, *last = p + bodies[v].primitives - 2;
+        const uint8_t *m = bodies[v].bytes, *starts = bodies[v].starts;
         size_t n = bodies[v].size, exact[3];
         for (int t = 0; t < 3; t++)
             exact[t] = bodies[v].needs[t] * wide[t];
@@ -159,25 +143,24 @@ static void bodies_read(void)
         CHECK(whole(answer(more, n + 1, v, ample), v));
         CHECK(whole(answer(more, sizeof more, v, exact), v));
         short_of_room(v, exact);
-        /* a body cut anywhere: 3 at the primitive that is not all there, in its row and field */
-        CHECK(last[1].start == (int64_t)n);
-        for (; p <= last; p++)
-            for (int64_t k = p[0].start; k < p[1].start; k++)
-                CHECK(no_answer(answer(m, (size_t)k, v, ample), 3, p->start, 0, p->row, p->field));
-        /* bytes are checked before room */
-        CHECK(no_answer(answer(m, n - 1, v, no_room), 3, last->start, 0, last->row, last->field));
-        CHECK(no_answer(answer(none, 0, v, ample), 3, 0, 0, OWN(0)));
-        CHECK(no_answer(answer(none, 0, v, no_room), 3, 0, 0, OWN(0)));
-        CHECK(no_answer(answer(large, BEFROLAN_MOST + 1, v, ample), 2, 0, 0, NOWHERE));
+        /* a body cut anywhere: 3 at the primitive that is not all there */
+        for (size_t i = 0; i + 1 < bodies[v].primitives; i++)
+            for (size_t k = starts[i]; k < starts[i + 1]; k++)
+                CHECK(no_answer(answer(m, k, v, ample), 3, starts[i], 0));
+        /* bytes are judged before room */
+        CHECK(no_answer(answer(m, n - 1, v, no_room), 3, starts[bodies[v].primitives - 2], 0));
+        CHECK(no_answer(answer(none, 0, v, ample), 3, 0, 0));
+        CHECK(no_answer(answer(none, 0, v, no_room), 3, 0, 0));
+        CHECK(no_answer(answer(large, BEFROLAN_MOST + 1, v, ample), 2, 0, 0));
         /* nothing but zeros: no topics */
         CHECK(own(answer(large, BEFROLAN_MOST, v, no_room), v == 0 ? 4 : 8, v == 0 ? 0 : 2, 0, 0) && unfilled());
     }
     static const int64_t others[4] = {-1, 5, -32768, 32767};
     for (int i = 0; i < 4; i++) {
-        CHECK(no_answer(answer(F0, 76, others[i], ample), 1, 0, 0, NOWHERE));
-        CHECK(no_answer(answer(F4, 164, others[i], ample), 1, 0, 0, NOWHERE));
-        CHECK(no_answer(answer(none, 0, others[i], no_room), 1, 0, 0, NOWHERE));
-        CHECK(no_answer(answer(large, BEFROLAN_MOST + 1, others[i], no_room), 1, 0, 0, NOWHERE));
+        CHECK(no_answer(answer(F0, 76, others[i], ample), 1, 0, 0));
+        CHECK(no_answer(answer(F4, 164, others[i], ample), 1, 0, 0));
+        CHECK(no_answer(answer(none, 0, others[i], no_room), 1, 0, 0));
+        CHECK(no_answer(answer(large, BEFROLAN_MOST + 1, others[i], no_room), 1, 0, 0));
     }
 }
 
@@ -218,88 +201,88 @@ static void values_read(void)
     memcpy(full, B(LONE, 0, 0xf, 0xff, 0xe4), 28);
     CHECK(own(answer(full, BEFROLAN_MOST, 0, ROOM(3, 7, 0)), BEFROLAN_MOST, 0, 0, 1));
     CHECK(filled(C(6, 0, 1), 3, C(2, 0, 0, -1, 0, 28, BEFROLAN_MOST - 28), 7, no_cells, 0));
-    CHECK(no_answer(answer(full, BEFROLAN_MOST - 1, 0, ample), 3, 24, 0, ROW(0, 3)));
+    CHECK(no_answer(answer(full, BEFROLAN_MOST - 1, 0, ample), 3, 24, 0));
     full[27]++;
-    CHECK(no_answer(answer(full, BEFROLAN_MOST, 0, ample), 3, 24, 0, ROW(0, 3)));
+    CHECK(no_answer(answer(full, BEFROLAN_MOST, 0, ample), 3, 24, 0));
 
     /* more rows than any table here has: 1,000 topics of 6 bytes, partitions of 18, pairs of 16 */
     static uint8_t topics[4 + 1000 * 6] = {0, 0, 3, 0xe8}, partitions[10 + 1000 * 18] = {COUNT(1), 0, 0, 0, 0, 3, 0xe8};
     static uint8_t pairs[44 + 1000 * 16] = {LONE4, 0, 0, 3, 0xe8};
-    CHECK(no_answer(answer(topics, sizeof topics, 0, ample), 10, 0, 1000, NOWHERE));
-    CHECK(no_answer(answer(topics, sizeof topics, 0, no_room), 10, 0, 1000, NOWHERE));
-    CHECK(no_answer(answer(topics, sizeof topics - 1, 0, no_room), 3, 4 + 999 * 6 + 2, 0, ROW(999, 1)));
-    CHECK(no_answer(answer(partitions, sizeof partitions, 0, ample), 10, 0, 1000, NOWHERE));
-    CHECK(no_answer(answer(partitions, sizeof partitions, 0, ROOM(2, 0, 0)), 10, 0, 1, NOWHERE));
-    CHECK(no_answer(answer(partitions, sizeof partitions - 1, 0, no_room), 3, 10 + 999 * 18 + 14, 0, ROW(999, 3)));
-    CHECK(no_answer(answer(pairs, sizeof pairs, 4, ample), 10, 0, 1000, NOWHERE));
-    CHECK(no_answer(answer(pairs, sizeof pairs, 4, ROOM(3, 6, 0)), 10, 0, 1, NOWHERE));
-    CHECK(no_answer(answer(pairs, sizeof pairs - 4, 4, ample), 3, 40 + 1000 * 16, 0, ROW(0, 5)));
-    CHECK(no_answer(answer(pairs, sizeof pairs - 5, 4, no_room), 3, 40 + 999 * 16 + 8, 0, ROW(999, 1)));
+    CHECK(no_answer(answer(topics, sizeof topics, 0, ample), 10, 0, 1000));
+    CHECK(no_answer(answer(topics, sizeof topics, 0, no_room), 10, 0, 1000));
+    CHECK(no_answer(answer(topics, sizeof topics - 1, 0, no_room), 3, 4 + 999 * 6 + 2, 0));
+    CHECK(no_answer(answer(partitions, sizeof partitions, 0, ample), 10, 0, 1000));
+    CHECK(no_answer(answer(partitions, sizeof partitions, 0, ROOM(2, 0, 0)), 10, 0, 1));
+    CHECK(no_answer(answer(partitions, sizeof partitions - 1, 0, no_room), 3, 10 + 999 * 18 + 14, 0));
+    CHECK(no_answer(answer(pairs, sizeof pairs, 4, ample), 10, 0, 1000));
+    CHECK(no_answer(answer(pairs, sizeof pairs, 4, ROOM(3, 6, 0)), 10, 0, 1));
+    CHECK(no_answer(answer(pairs, sizeof pairs - 4, 4, ample), 3, 40 + 1000 * 16, 0));
+    CHECK(no_answer(answer(pairs, sizeof pairs - 5, 4, no_room), 3, 40 + 999 * 16 + 8, 0));
 }
 
 static void answers_refused(void)
 {
     /* counts: of topics, partitions, aborted transactions */
-    BAD(0, 4, 0, OWN(0), BELOW);
-    BAD(0, 4, 0, OWN(0), LEAST32);
+    BAD(0, 4, 0, BELOW);
+    BAD(0, 4, 0, LEAST32);
     for (int64_t v = 1; v < 5; v++) {
-        BAD(v, 4, 4, OWN(1), COUNT(0), BELOW);
-        BAD(v, 4, 10, ROW(0, 1), NONE, COUNT(1), 0, 0, BELOW);
-        BAD(v, 4, 10, ROW(0, 1), NONE, COUNT(1), 0, 0, LEAST32);
+        BAD(v, 4, 4, COUNT(0), BELOW);
+        BAD(v, 4, 10, NONE, COUNT(1), 0, 0, BELOW);
+        BAD(v, 4, 10, NONE, COUNT(1), 0, 0, LEAST32);
     }
-    BAD(0, 4, 6, ROW(0, 1), COUNT(1), 0, 0, BELOW);
-    BAD(0, 4, 12, ROW(1, 1), COUNT(2), 0, 0, NONE, 0, 0, BELOW);
-    BAD(4, 4, 36, ROW(0, 4), LONE4, BELOW);
-    BAD(4, 4, 36, ROW(0, 4), LONE4, LEAST32);
+    BAD(0, 4, 6, COUNT(1), 0, 0, BELOW);
+    BAD(0, 4, 12, COUNT(2), 0, 0, NONE, 0, 0, BELOW);
+    BAD(4, 4, 36, LONE4, BELOW);
+    BAD(4, 4, 36, LONE4, LEAST32);
     /* records */
-    BAD(0, 4, 24, ROW(0, 3), LONE, BELOW);
-    BAD(0, 4, 24, ROW(0, 3), LONE, LEAST32, 0, 0);
-    BAD(3, 4, 28, ROW(0, 3), COUNT(0), LONE, BELOW);
-    BAD(4, 4, 40, ROW(0, 5), LONE4, COUNT(0), BELOW);
-    BAD(4, 4, 56, ROW(0, 5), LONE4, COUNT(1), LONG(1), LONG(2), BELOW);
-    BAD(0, 3, 24, ROW(0, 3), LONE, COUNT(1));
-    BAD(0, 3, 24, ROW(0, 3), LONE, COUNT(3), 0xaa, 0xbb);
-    BAD(0, 3, 24, ROW(0, 3), LONE, MOST32, 0xaa, 0xbb);
-    BAD(1, 3, 28, ROW(0, 3), COUNT(0), LONE, COUNT(2), 0xaa);
-    BAD(4, 3, 40, ROW(0, 5), LONE4, NONE, COUNT(2), 0xaa);
+    BAD(0, 4, 24, LONE, BELOW);
+    BAD(0, 4, 24, LONE, LEAST32, 0, 0);
+    BAD(3, 4, 28, COUNT(0), LONE, BELOW);
+    BAD(4, 4, 40, LONE4, COUNT(0), BELOW);
+    BAD(4, 4, 56, LONE4, COUNT(1), LONG(1), LONG(2), BELOW);
+    BAD(0, 3, 24, LONE, COUNT(1));
+    BAD(0, 3, 24, LONE, COUNT(3), 0xaa, 0xbb);
+    BAD(0, 3, 24, LONE, MOST32, 0xaa, 0xbb);
+    BAD(1, 3, 28, COUNT(0), LONE, COUNT(2), 0xaa);
+    BAD(4, 3, 40, LONE4, NONE, COUNT(2), 0xaa);
     /* names: a length below 0, contents that are no text, contents cut short, which come before those that are no text */
-    BAD(0, 4, 4, ROW(0, 0), COUNT(1), 0xff, 0xff);
-    BAD(0, 4, 4, ROW(0, 0), COUNT(1), 0x80, 0, 0, 0);
-    BAD(4, 4, 8, ROW(0, 0), COUNT(0), COUNT(1), 0xff, 0xfe, COUNT(0));
-    BAD(0, 7, 6, ROW(0, 0), COUNT(1), 0, 2, 0xc0, 0x80);
-    BAD(1, 7, 10, ROW(0, 0), COUNT(0), COUNT(1), 0, 3, 0xed, 0xa0, 0x80, COUNT(0));
-    BAD(2, 7, 10, ROW(0, 0), COUNT(0), COUNT(1), 0, 4, 0xf4, 0x90, 0x80, 0x80);
-    BAD(3, 7, 11, ROW(0, 0), COUNT(0), COUNT(1), 0, 2, 'a', 0xc3, 0xa9, COUNT(0));
-    BAD(4, 7, 10, ROW(0, 0), COUNT(0), COUNT(1), 0, 1, 0x80, COUNT(0));
-    BAD(0, 3, 4, ROW(0, 0), COUNT(1), 0, 4, 0xc0, 0x80);
-    BAD(0, 3, 4, ROW(0, 0), COUNT(1), 0x7f, 0xff, 'a');
+    BAD(0, 4, 4, COUNT(1), 0xff, 0xff);
+    BAD(0, 4, 4, COUNT(1), 0x80, 0, 0, 0);
+    BAD(4, 4, 8, COUNT(0), COUNT(1), 0xff, 0xfe, COUNT(0));
+    BAD(0, 7, 6, COUNT(1), 0, 2, 0xc0, 0x80);
+    BAD(1, 7, 10, COUNT(0), COUNT(1), 0, 3, 0xed, 0xa0, 0x80, COUNT(0));
+    BAD(2, 7, 10, COUNT(0), COUNT(1), 0, 4, 0xf4, 0x90, 0x80, 0x80);
+    BAD(3, 7, 11, COUNT(0), COUNT(1), 0, 2, 'a', 0xc3, 0xa9, COUNT(0));
+    BAD(4, 7, 10, COUNT(0), COUNT(1), 0, 1, 0x80, COUNT(0));
+    BAD(0, 3, 4, COUNT(1), 0, 4, 0xc0, 0x80);
+    BAD(0, 3, 4, COUNT(1), 0x7f, 0xff, 'a');
     /* in the second topic: behind the records of a partition of the first */
-    BAD(0, 7, 31, ROW(1, 0), COUNT(2), 0, 0, COUNT(1), COUNT(2), 0, 0, LONG(0), COUNT(1), 0xff, 0, 1, 0xff, COUNT(0));
-    BAD(0, 4, 29, ROW(1, 0), COUNT(2), 0, 0, COUNT(1), COUNT(2), 0, 0, LONG(0), COUNT(1), 0xff, 0xff, 0xff, COUNT(0));
+    BAD(0, 7, 31, COUNT(2), 0, 0, COUNT(1), COUNT(2), 0, 0, LONG(0), COUNT(1), 0xff, 0, 1, 0xff, COUNT(0));
+    BAD(0, 4, 29, COUNT(2), 0, 0, COUNT(1), COUNT(2), 0, 0, LONG(0), COUNT(1), 0xff, 0xff, 0xff, COUNT(0));
     /* two faults: the first in the order of the bytes */
-    BAD(0, 7, 6, ROW(0, 0), COUNT(1), 0, 1, 0xff, BELOW);
-    BAD(0, 4, 7, ROW(0, 1), COUNT(2), 0, 1, 'a', BELOW, 0, 1, 0xff, COUNT(0));
-    BAD(4, 4, 36, ROW(0, 4), LONE4, BELOW, BELOW);
-    BAD(0, 4, 24, ROW(0, 3), COUNT(2), 0, 0, COUNT(1), COUNT(2), 0, 0, LONG(0), BELOW, 0, 1, 0xff, COUNT(0));
-    BAD(0, 3, 28, ROW(1, 0), COUNT(2), 0, 0, COUNT(1), COUNT(2), 0, 0, LONG(0), NONE);
+    BAD(0, 7, 6, COUNT(1), 0, 1, 0xff, BELOW);
+    BAD(0, 4, 7, COUNT(2), 0, 1, 'a', BELOW, 0, 1, 0xff, COUNT(0));
+    BAD(4, 4, 36, LONE4, BELOW, BELOW);
+    BAD(0, 4, 24, COUNT(2), 0, 0, COUNT(1), COUNT(2), 0, 0, LONG(0), BELOW, 0, 1, 0xff, COUNT(0));
+    BAD(0, 3, 28, COUNT(2), 0, 0, COUNT(1), COUNT(2), 0, 0, LONG(0), NONE);
     /* the largest counts, with nothing or with one item behind them */
-    BAD(0, 3, 4, ROW(0, 0), MOST32);
-    BAD(1, 3, 8, ROW(0, 0), COUNT(0), MOST32);
-    BAD(0, 3, 10, ROW(1, 0), MOST32, 0, 0, COUNT(0));
-    BAD(0, 3, 10, ROW(0, 0), COUNT(1), 0, 0, MOST32);
-    BAD(0, 3, 28, ROW(1, 0), COUNT(1), 0, 0, MOST32, COUNT(2), 0, 0, LONG(0), NONE);
-    BAD(4, 3, 40, ROW(0, 0), LONE4, MOST32);
-    BAD(4, 3, 56, ROW(1, 0), LONE4, MOST32, LONG(1), LONG(2));
-    BAD(4, 3, 64, ROW(1, 1), LONE4, MOST32, LONG(1), LONG(2), LONG(3), 0);
-    BAD(0, 4, 10, ROW(1, 0), MOST32, 0, 0, COUNT(0), 0xff, 0xff);
+    BAD(0, 3, 4, MOST32);
+    BAD(1, 3, 8, COUNT(0), MOST32);
+    BAD(0, 3, 10, MOST32, 0, 0, COUNT(0));
+    BAD(0, 3, 10, COUNT(1), 0, 0, MOST32);
+    BAD(0, 3, 28, COUNT(1), 0, 0, MOST32, COUNT(2), 0, 0, LONG(0), NONE);
+    BAD(4, 3, 40, LONE4, MOST32);
+    BAD(4, 3, 56, LONE4, MOST32, LONG(1), LONG(2));
+    BAD(4, 3, 64, LONE4, MOST32, LONG(1), LONG(2), LONG(3), 0);
+    BAD(0, 4, 10, MOST32, 0, 0, COUNT(0), 0xff, 0xff);
     /* a body of another version: what stands where the length of records should is more than what is left; read at 4, that
      * of 1 seems to have 256 aborted transactions; read at 0, the throttle time -1 of 4 is a null count */
     for (int64_t v = 1; v < 4; v++) {
-        CHECK(no_answer(answer(F0, 76, v, ample), 3, 28, 0, ROW(0, 3)));
-        CHECK(no_answer(answer(F4, 164, v, ample), 3, 47, 0, ROW(1, 3)));
+        CHECK(no_answer(answer(F0, 76, v, ample), 3, 28, 0));
+        CHECK(no_answer(answer(F4, 164, v, ample), 3, 47, 0));
     }
-    CHECK(no_answer(answer(F1, 80, 0, ample), 3, 60, 0, ROW(2, 3)));
-    CHECK(no_answer(answer(F1, 80, 4, ample), 3, 73, 0, ROW(2, 0)));
+    CHECK(no_answer(answer(F1, 80, 0, ample), 3, 60, 0));
+    CHECK(no_answer(answer(F1, 80, 4, ample), 3, 73, 0));
     CHECK(own(answer(F4, 164, 0, no_room), 4, 0, 0, 0) && unfilled());
 }
 

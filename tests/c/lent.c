@@ -49,7 +49,7 @@ int wrote(const uint8_t *bytes, size_t n)
     return 1;
 }
 
-int not_written(befrolan_numbers r, int64_t number, int64_t need, int64_t message, int64_t row, int64_t field)
+int not_written(befrolan_numbers r, int64_t number, int64_t need)
 {
-    return REFUSED(r, number, 0, need, message, row, field) && wrote(none, 0);
+    return REFUSED(r, number, 0, need) && wrote(none, 0);
 }

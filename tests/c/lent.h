@@ -43,31 +43,15 @@ int wrote(const uint8_t *bytes, size_t n);
 
 /* ---- what an answer says */
 
-/* an answer that refuses: number, place and need, and message, row and field */
-#define NAMED(r, m, w, f) ((r).message == (m) && (r).row == (w) && (r).field == (f))
-#define REFUSED(r, n, p, k, m, w, f) ((r).number == (n) && (r).place == (p) && (r).need == (k) && NAMED(r, m, w, f) && (r).used == 0)
-
-/* one that accepts has 0 for all of these; from `used` on, the numbers of an answer */
-#define USED(r, n) ((r).number == 0 && (r).place == 0 && (r).need == 0 && NAMED(r, 0, 0, 0) && (r).used == (n))
-#define ACCEPTED(...) 0, 0, 0, 0, 0, 0, __VA_ARGS__
-
-/* where a refusal is, as row and field: in a field of the body or of the header itself, in a field of a row, in none */
-#define OWN(field) BEFROLAN_NOWHERE, field
-#define ROW(row, field) row, field
-#define NOWHERE BEFROLAN_NOWHERE, BEFROLAN_NOWHERE
-
-/* where a primitive of a body starts, and the row and field that it is in; a text, a byte string and its length are one */
-typedef struct {
-    int64_t start, row, field;
-} primitive;
-
+#define REFUSED(r, n, p, k) ((r).number == (n) && (r).place == (p) && (r).need == (k) && (r).used == 0)
+#define USED(r, n) ((r).number == 0 && (r).place == 0 && (r).need == 0 && (r).used == (n))
 #define B(...) ((const uint8_t[]){__VA_ARGS__})
 #define C(...) ((const int64_t[]){__VA_ARGS__})
 #define ROOM(...) ((const size_t[]){__VA_ARGS__})
 #define LEN(...) (sizeof((const uint8_t[]){__VA_ARGS__}))
 
 /* a writer refused, and the output is as it was */
-int not_written(befrolan_numbers r, int64_t number, int64_t need, int64_t message, int64_t row, int64_t field);
+int not_written(befrolan_numbers r, int64_t number, int64_t need);
 
 /* ---- bytes and cells that more than one file lends */
 
@@ -81,9 +65,6 @@ extern const int64_t no_cells[1];
 #define BELOW 0xff, 0xff, 0xff, 0xfe
 #define MOST32 0x7f, 0xff, 0xff, 0xff
 #define LEAST32 0x80, 0, 0, 0
-
-/* a varint whose tenth byte continues */
-#define CONTINUES 0x80, 0x80, 0x80, 0x80, 0x80, 0x80, 0x80, 0x80, 0x80, 0x80
 
 /* Int64 numbers as bytes: a small one, a small one below 0, the highest, the lowest, and one with a different number in each byte */
 #define LONG(n) 0, 0, 0, 0, 0, 0, 0, n

@@ -1,9 +1,6 @@
 /* Metadata responses, read, with the lookup of a host in them, and requests, written. */
 #include "lent.h"
 
-#define REQUEST BEFROLAN_MESSAGE_METADATA_REQUEST
-#define RESPONSE BEFROLAN_MESSAGE_METADATA_RESPONSE
-
 /* ---- Metadata responses, read */
 
 /* Two brokers: node 1, host "h1", port 9092, rack null; node 2, host "k", port 9093, rack "r".
@@ -84,9 +81,9 @@ static int whole(befrolan_metadata_numbers r, int64_t v)
     return own(r, (int64_t)bodies[v].size, bodies[v].own) && filled(bodies[v].brokers, 14, bodies[v].topics, 10, partitions, 15, replicas, 4, in_sync, 1);
 }
 
-static int no_metadata(befrolan_metadata_numbers r, int64_t number, int64_t place, int64_t need, int64_t row, int64_t field)
+static int no_metadata(befrolan_metadata_numbers r, int64_t number, int64_t place, int64_t need)
 {
-    return REFUSED(r, number, place, need, RESPONSE, row, field) && r.throttle_kind == 0 && r.throttle == 0 && r.brokers == 0 && r.cluster_kind == 0 && r.cluster_start == 0
+    return REFUSED(r, number, place, need) && r.throttle_kind == 0 && r.throttle == 0 && r.brokers == 0 && r.cluster_kind == 0 && r.cluster_start == 0
            && r.cluster_length == 0 && r.controller_kind == 0 && r.controller == 0 && r.topics == 0 && unfilled();
 }
 
@@ -95,27 +92,20 @@ static int no_metadata(befrolan_metadata_numbers r, int64_t number, int64_t plac
 static int host(const uint8_t *m, size_t n, int64_t v, int64_t node, int64_t start, int64_t length)
 {
     befrolan_host_numbers r = befrolan_find_host(m, n, v, node);
-    return r.number == 0 && r.place == 0 && r.need == 0 && NAMED(r, 0, 0, 0) && r.found == 1 && r.start == start && r.length == length;
+    return r.number == 0 && r.place == 0 && r.need == 0 && r.found == 1 && r.start == start && r.length == length;
 }
 
-/* accepted, and no broker has the node */
-static int no_broker(const uint8_t *m, size_t n, int64_t v, int64_t node)
+static int no_host(const uint8_t *m, size_t n, int64_t v, int64_t node, int64_t number, int64_t place)
 {
     befrolan_host_numbers r = befrolan_find_host(m, n, v, node);
-    return r.number == 0 && r.place == 0 && r.need == 0 && NAMED(r, 0, 0, 0) && r.found == 0 && r.start == 0 && r.length == 0;
-}
-
-static int no_host(const uint8_t *m, size_t n, int64_t v, int64_t node, int64_t number, int64_t place, int64_t row, int64_t field)
-{
-    befrolan_host_numbers r = befrolan_find_host(m, n, v, node);
-    return r.number == number && r.place == place && r.need == 0 && NAMED(r, RESPONSE, row, field) && r.found == 0 && r.start == 0 && r.length == 0;
+    return r.number == number && r.place == place && r.need == 0 && r.found == 0 && r.start == 0 && r.length == 0;
 }
 
 /* bytes that are refused, by the reader with room and without any, and by the lookup */
-#define BAD(v, number, place, where, ...) \
-    CHECK(no_metadata(metadata(B(__VA_ARGS__), LEN(__VA_ARGS__), v, ample), number, place, 0, where)); \
-    CHECK(no_metadata(metadata(B(__VA_ARGS__), LEN(__VA_ARGS__), v, no_room), number, place, 0, where)); \
-    CHECK(no_host(B(__VA_ARGS__), LEN(__VA_ARGS__), v, 1, number, place, where))
+#define BAD(v, number, place, ...) \
+    CHECK(no_metadata(metadata(B(__VA_ARGS__), LEN(__VA_ARGS__), v, ample), number, place, 0)); \
+    CHECK(no_metadata(metadata(B(__VA_ARGS__), LEN(__VA_ARGS__), v, no_room), number, place, 0)); \
+    CHECK(no_host(B(__VA_ARGS__), LEN(__VA_ARGS__), v, 1, number, place))
 
 static void metadata_read(void)
 {
@@ -138,25 +128,25 @@ static void metadata_read(void)
             memcpy(cut, exact, sizeof cut);
             /* one row too few, and a cut row */
             room[t] -= wide[t];
-            CHECK(no_metadata(metadata(m, n, v, room), 10, 0, (int64_t)needs[t], NOWHERE));
+            CHECK(no_metadata(metadata(m, n, v, room), 10, 0, (int64_t)needs[t]));
             cut[t]--;
-            CHECK(no_metadata(metadata(m, n, v, cut), 10, 0, (int64_t)needs[t], NOWHERE));
+            CHECK(no_metadata(metadata(m, n, v, cut), 10, 0, (int64_t)needs[t]));
             /* a cell more is no row */
             cut[t] += 2;
             CHECK(whole(metadata(m, n, v, cut), v));
             /* the first that is too small is told, not one behind it */
             for (int u = t + 1; u < 5; u++)
                 room[u] = 0;
-            CHECK(no_metadata(metadata(m, n, v, room), 10, 0, (int64_t)needs[t], NOWHERE));
+            CHECK(no_metadata(metadata(m, n, v, room), 10, 0, (int64_t)needs[t]));
         }
-        CHECK(no_metadata(metadata(m, n, v, no_room), 10, 0, 2, NOWHERE));
-        CHECK(no_metadata(metadata(none, 0, v, ample), 3, 0, 0, OWN(0)));
-        CHECK(no_metadata(metadata(large, BEFROLAN_MOST + 1, v, ample), 2, 0, 0, NOWHERE));
+        CHECK(no_metadata(metadata(m, n, v, no_room), 10, 0, 2));
+        CHECK(no_metadata(metadata(none, 0, v, ample), 3, 0, 0));
+        CHECK(no_metadata(metadata(large, BEFROLAN_MOST + 1, v, ample), 2, 0, 0));
     }
     static const int64_t others[4] = {-1, 5, -32768, 32767};
     for (int i = 0; i < 4; i++) {
-        CHECK(no_metadata(metadata(M0, 124, others[i], ample), 1, 0, 0, NOWHERE));
-        CHECK(no_metadata(metadata(large, BEFROLAN_MOST + 1, others[i], no_room), 1, 0, 0, NOWHERE));
+        CHECK(no_metadata(metadata(M0, 124, others[i], ample), 1, 0, 0));
+        CHECK(no_metadata(metadata(large, BEFROLAN_MOST + 1, others[i], no_room), 1, 0, 0));
     }
     /* nothing but zeros: no brokers, an empty cluster, controller 0, no topics */
     CHECK(own(metadata(large, BEFROLAN_MOST, 0, no_room), 8, C(0, 0, 0, 0, 0, 0, 0, 0, 0)) && unfilled());
@@ -179,86 +169,55 @@ static void metadata_read(void)
     CHECK(filled(C(-INT64_C(2147483648), 10, 0, 2147483647, 0, 0, 0), 7, C(-32768, 22, 0, -1, 0), 5, no_cells, 0, no_cells, 0, no_cells, 0));
 }
 
-/* Where the primitives of these bodies start, with their rows and fields. First those of rows, which follow each other alike in all
- * versions, but for racks and flags. Brokers: node, host, port, rack. */
-#define BROKERS_AT(s) {s, ROW(0, 0)}, {s + 4, ROW(0, 1)}, {s + 8, ROW(0, 2)}, {s + 12, ROW(1, 0)}, {s + 16, ROW(1, 1)}, {s + 19, ROW(1, 2)}
-#define RACKED_AT(s) \
-    {s, ROW(0, 0)}, {s + 4, ROW(0, 1)}, {s + 8, ROW(0, 2)}, {s + 12, ROW(0, 3)}, \
-    {s + 14, ROW(1, 0)}, {s + 18, ROW(1, 1)}, {s + 21, ROW(1, 2)}, {s + 25, ROW(1, 3)}
-/* topics: error, name, flag, number of partitions */
-#define FIRST_TOPIC_AT(s) {s, ROW(0, 0)}, {s + 2, ROW(0, 1)}, {s + 5, ROW(0, 2)}, {s + 6, ROW(0, 3)}
-#define SECOND_TOPIC_AT(s) {s, ROW(1, 0)}, {s + 2, ROW(1, 1)}, {s + 6, ROW(1, 2)}, {s + 7, ROW(1, 3)}
-/* Partitions: error, index, leader, number of replicas, number of those in sync. A replica is a row of its own, and so is one in
- * sync: partition 0 has two replicas, partition 1 one in sync, partition 2 two more replicas. */
-#define FIRST_PARTITIONS_AT(s) \
-    {s, ROW(0, 0)}, {s + 2, ROW(0, 1)}, {s + 6, ROW(0, 2)}, {s + 10, ROW(0, 3)}, {s + 14, ROW(0, 0)}, {s + 18, ROW(1, 0)}, {s + 22, ROW(0, 4)}, \
-    {s + 26, ROW(1, 0)}, {s + 28, ROW(1, 1)}, {s + 32, ROW(1, 2)}, {s + 36, ROW(1, 3)}, {s + 40, ROW(1, 4)}, {s + 44, ROW(0, 0)}
-#define SECOND_PARTITIONS_AT(s) \
-    {s, ROW(2, 0)}, {s + 2, ROW(2, 1)}, {s + 6, ROW(2, 2)}, {s + 10, ROW(2, 3)}, {s + 14, ROW(2, 0)}, {s + 18, ROW(3, 0)}, {s + 22, ROW(2, 4)}
+/* where the primitives of M0 and M4 start */
+static const uint8_t starts0[] = {0, 4, 8, 12, 16, 20, 23, 27, 31, 33, 36, 40, 42, 46, 50, 54, 58, 62, 66, 68, 72, 76, 80, 84,
+                                  88, 90, 94, 98, 100, 104, 108, 112, 116, 120, 124};
+static const uint8_t starts4[] = {0, 4, 8, 12, 16, 20, 22, 26, 29, 33, 36, 38, 42, 46, 48, 51, 52, 56, 58, 62, 66, 70, 74, 78, 82, 84, 88, 92, 96, 100,
+                                  104, 106, 110, 111, 115, 117, 121, 125, 129, 133, 137, 141};
 
-/* own fields: brokers, topics; from 1 on the controller between them; from 2 on the cluster before that; from 3 on the throttle time first */
-static const primitive starts0[] = {{0, OWN(0)}, BROKERS_AT(4), {27, OWN(1)},
-                                    {31, ROW(0, 0)}, {33, ROW(0, 1)}, {36, ROW(0, 2)}, FIRST_PARTITIONS_AT(40),
-                                    {88, ROW(1, 0)}, {90, ROW(1, 1)}, {94, ROW(1, 2)}, SECOND_PARTITIONS_AT(98), {124, NOWHERE}};
-static const primitive starts1[] = {{0, OWN(0)}, RACKED_AT(4), {32, OWN(1)}, {36, OWN(2)}, FIRST_TOPIC_AT(40), FIRST_PARTITIONS_AT(50),
-                                    SECOND_TOPIC_AT(98), SECOND_PARTITIONS_AT(109), {135, NOWHERE}};
-static const primitive starts2[] = {{0, OWN(0)}, RACKED_AT(4), {32, OWN(1)}, {34, OWN(2)}, {38, OWN(3)}, FIRST_TOPIC_AT(42), FIRST_PARTITIONS_AT(52),
-                                    SECOND_TOPIC_AT(100), SECOND_PARTITIONS_AT(111), {137, NOWHERE}};
-static const primitive starts3[] = {{0, OWN(0)}, {4, OWN(1)}, RACKED_AT(8), {36, OWN(2)}, {40, OWN(3)}, {44, OWN(4)}, FIRST_TOPIC_AT(48), FIRST_PARTITIONS_AT(58),
-                                    SECOND_TOPIC_AT(106), SECOND_PARTITIONS_AT(117), {143, NOWHERE}};
-static const primitive starts4[] = {{0, OWN(0)}, {4, OWN(1)}, RACKED_AT(8), {36, OWN(2)}, {38, OWN(3)}, {42, OWN(4)}, FIRST_TOPIC_AT(46), FIRST_PARTITIONS_AT(56),
-                                    SECOND_TOPIC_AT(104), SECOND_PARTITIONS_AT(115), {141, NOWHERE}};
-
-/* a body cut anywhere: 3 at the primitive that is not all there, in its row and field, for the reader and for the lookup of a
- * broker at the front */
-static void cut(int64_t v, const primitive *p, size_t size)
+/* a body cut anywhere: 3 at the primitive that is not all there, for the reader and for the lookup of a broker at the front */
+static void cut(const uint8_t *m, int64_t v, const uint8_t *starts, size_t n)
 {
-    const uint8_t *m = bodies[v].bytes;
-    size_t n = size / sizeof p[0];
-    CHECK(p[n - 1].start == (int64_t)bodies[v].size);
     for (size_t i = 0; i + 1 < n; i++)
-        for (int64_t k = p[i].start; k < p[i + 1].start; k++) {
-            CHECK(no_metadata(metadata(m, (size_t)k, v, ample), 3, p[i].start, 0, p[i].row, p[i].field));
-            CHECK(no_host(m, (size_t)k, v, 1, 3, p[i].start, p[i].row, p[i].field));
+        for (size_t k = starts[i]; k < starts[i + 1]; k++) {
+            CHECK(no_metadata(metadata(m, k, v, ample), 3, starts[i], 0));
+            CHECK(no_host(m, k, v, 1, 3, starts[i]));
         }
 }
 
 static void metadata_refused(void)
 {
-    cut(0, starts0, sizeof starts0);
-    cut(1, starts1, sizeof starts1);
-    cut(2, starts2, sizeof starts2);
-    cut(3, starts3, sizeof starts3);
-    cut(4, starts4, sizeof starts4);
+    cut(M0, 0, starts0, sizeof starts0);
+    cut(M4, 4, starts4, sizeof starts4);
     /* counts: of brokers, topics, partitions, replicas, in sync */
-    BAD(0, 4, 0, OWN(0), BELOW);
-    BAD(3, 4, 4, OWN(1), COUNT(0), BELOW);
-    BAD(0, 4, 4, OWN(1), NONE, BELOW);
-    BAD(0, 4, 12, ROW(0, 2), NONE, COUNT(1), 0, 0, 0, 0, BELOW);
-    BAD(0, 4, 26, ROW(0, 3), NONE, COUNT(1), 0, 0, 0, 0, COUNT(1), 0, 0, COUNT(0), COUNT(1), BELOW);
-    BAD(0, 4, 30, ROW(0, 4), NONE, COUNT(1), 0, 0, 0, 0, COUNT(1), 0, 0, COUNT(0), COUNT(1), NONE, BELOW);
-    BAD(0, 4, 0, OWN(0), 0x80, 0, 0, 0);
+    BAD(0, 4, 0, BELOW);
+    BAD(3, 4, 4, COUNT(0), BELOW);
+    BAD(0, 4, 4, NONE, BELOW);
+    BAD(0, 4, 12, NONE, COUNT(1), 0, 0, 0, 0, BELOW);
+    BAD(0, 4, 26, NONE, COUNT(1), 0, 0, 0, 0, COUNT(1), 0, 0, COUNT(0), COUNT(1), BELOW);
+    BAD(0, 4, 30, NONE, COUNT(1), 0, 0, 0, 0, COUNT(1), 0, 0, COUNT(0), COUNT(1), NONE, BELOW);
+    BAD(0, 4, 0, 0x80, 0, 0, 0);
     /* texts: a host, a rack, a cluster, a topic's name */
-    BAD(0, 4, 8, ROW(0, 1), COUNT(1), COUNT(1), 0xff, 0xff);
-    BAD(1, 4, 14, ROW(0, 3), COUNT(1), COUNT(1), 0, 0, COUNT(0), 0xff, 0xfe);
-    BAD(2, 4, 4, OWN(1), NONE, 0xff, 0xfe);
-    BAD(0, 4, 10, ROW(0, 1), NONE, COUNT(1), 0, 0, 0xff, 0xff);
-    BAD(0, 7, 10, ROW(0, 1), COUNT(1), COUNT(1), 0, 2, 0xc0, 0x80);
-    BAD(1, 7, 16, ROW(0, 3), COUNT(1), COUNT(1), 0, 0, COUNT(0), 0, 1, 0xff);
-    BAD(2, 7, 6, OWN(1), NONE, 0, 3, 0xed, 0xa0, 0x80);
-    BAD(4, 7, 10, OWN(2), COUNT(0), NONE, 0, 4, 0xf4, 0x90, 0x80, 0x80);
-    BAD(0, 7, 12, ROW(0, 1), NONE, COUNT(1), 0, 0, 0, 1, 0x80);
-    BAD(0, 7, 15, ROW(0, 1), NONE, COUNT(1), 0, 0, 0, 5, 0xc3, 0xa9, 't', 0xc3, 0x28);
+    BAD(0, 4, 8, COUNT(1), COUNT(1), 0xff, 0xff);
+    BAD(1, 4, 14, COUNT(1), COUNT(1), 0, 0, COUNT(0), 0xff, 0xfe);
+    BAD(2, 4, 4, NONE, 0xff, 0xfe);
+    BAD(0, 4, 10, NONE, COUNT(1), 0, 0, 0xff, 0xff);
+    BAD(0, 7, 10, COUNT(1), COUNT(1), 0, 2, 0xc0, 0x80);
+    BAD(1, 7, 16, COUNT(1), COUNT(1), 0, 0, COUNT(0), 0, 1, 0xff);
+    BAD(2, 7, 6, NONE, 0, 3, 0xed, 0xa0, 0x80);
+    BAD(4, 7, 10, COUNT(0), NONE, 0, 4, 0xf4, 0x90, 0x80, 0x80);
+    BAD(0, 7, 12, NONE, COUNT(1), 0, 0, 0, 1, 0x80);
+    BAD(0, 7, 15, NONE, COUNT(1), 0, 0, 0, 5, 0xc3, 0xa9, 't', 0xc3, 0x28);
     /* contents cut short come before contents that are no text */
-    BAD(0, 3, 8, ROW(0, 1), COUNT(1), COUNT(1), 0, 3, 0xc0, 0x80);
+    BAD(0, 3, 8, COUNT(1), COUNT(1), 0, 3, 0xc0, 0x80);
     /* the largest counts, with nothing or with one item behind them */
-    BAD(0, 3, 4, ROW(0, 0), 0x7f, 0xff, 0xff, 0xff);
-    BAD(0, 3, 8, ROW(0, 0), NONE, 0x7f, 0xff, 0xff, 0xff);
-    BAD(0, 3, 16, ROW(1, 0), NONE, 0x7f, 0xff, 0xff, 0xff, 0, 0, 0, 0, NONE);
-    BAD(4, 3, 18, ROW(0, 0), COUNT(0), NONE, 0xff, 0xff, COUNT(0), 0x7f, 0xff, 0xff, 0xff);
-    BAD(0, 3, 16, ROW(0, 0), NONE, COUNT(1), 0, 0, 0, 0, 0x7f, 0xff, 0xff, 0xff);
-    BAD(0, 3, 34, ROW(1, 0), NONE, COUNT(1), 0, 0, 0, 0, COUNT(1), 0, 0, COUNT(0), COUNT(1), 0x7f, 0xff, 0xff, 0xff, COUNT(1));
-    BAD(0, 3, 34, ROW(0, 0), NONE, COUNT(1), 0, 0, 0, 0, COUNT(1), 0, 0, COUNT(0), COUNT(1), NONE, 0x7f, 0xff, 0xff, 0xff);
+    BAD(0, 3, 4, 0x7f, 0xff, 0xff, 0xff);
+    BAD(0, 3, 8, NONE, 0x7f, 0xff, 0xff, 0xff);
+    BAD(0, 3, 16, NONE, 0x7f, 0xff, 0xff, 0xff, 0, 0, 0, 0, NONE);
+    BAD(4, 3, 18, COUNT(0), NONE, 0xff, 0xff, COUNT(0), 0x7f, 0xff, 0xff, 0xff);
+    BAD(0, 3, 16, NONE, COUNT(1), 0, 0, 0, 0, 0x7f, 0xff, 0xff, 0xff);
+    BAD(0, 3, 34, NONE, COUNT(1), 0, 0, 0, 0, COUNT(1), 0, 0, COUNT(0), COUNT(1), 0x7f, 0xff, 0xff, 0xff, COUNT(1));
+    BAD(0, 3, 34, NONE, COUNT(1), 0, 0, 0, 0, COUNT(1), 0, 0, COUNT(0), COUNT(1), NONE, 0x7f, 0xff, 0xff, 0xff);
 }
 
 static void hosts(void)
@@ -269,42 +228,42 @@ static void hosts(void)
         CHECK(host(m, n, v, 1, bodies[v].brokers[1], 2));
         CHECK(host(m, n, v, 2, bodies[v].brokers[8], 1));
         /* neither a leader that is no broker, nor a number of more than 32 bits */
-        CHECK(no_broker(m, n, v, -1));
-        CHECK(no_broker(m, n, v, 0));
-        CHECK(no_broker(m, n, v, (INT64_C(1) << 32) + 1));
-        CHECK(no_broker(m, n, v, INT64_MIN + 2));
-        CHECK(no_host(none, 0, v, 1, 3, 0, OWN(0)));
-        CHECK(no_host(large, BEFROLAN_MOST + 1, v, 1, 2, 0, NOWHERE));
-        CHECK(no_broker(large, BEFROLAN_MOST, v, 0));
+        CHECK(no_host(m, n, v, -1, 0, 0));
+        CHECK(no_host(m, n, v, 0, 0, 0));
+        CHECK(no_host(m, n, v, (INT64_C(1) << 32) + 1, 0, 0));
+        CHECK(no_host(m, n, v, INT64_MIN + 2, 0, 0));
+        CHECK(no_host(none, 0, v, 1, 3, 0));
+        CHECK(no_host(large, BEFROLAN_MOST + 1, v, 1, 2, 0));
+        CHECK(no_host(large, BEFROLAN_MOST, v, 0, 0, 0));
     }
-    CHECK(no_host(M0, 124, -1, 1, 1, 0, NOWHERE));
-    CHECK(no_host(M0, 124, 5, 1, 1, 0, NOWHERE));
-    CHECK(no_host(large, BEFROLAN_MOST + 1, 5, 1, 1, 0, NOWHERE));
+    CHECK(no_host(M0, 124, -1, 1, 1, 0));
+    CHECK(no_host(M0, 124, 5, 1, 1, 0));
+    CHECK(no_host(large, BEFROLAN_MOST + 1, 5, 1, 1, 0));
     /* the example of the rules: an empty host, one of a byte, none */
     static const uint8_t two[] = {COUNT(2), COUNT(1), 0, 0, 0, 0, 0x23, 0x84, COUNT(2), 0, 1, 'h', 0, 0, 0x23, 0x84, COUNT(0), 0xff};
     CHECK(host(two, 29, 0, 1, 10, 0));
     CHECK(host(two, 29, 0, 2, 20, 1));
-    CHECK(no_broker(two, 29, 0, 3));
+    CHECK(no_host(two, 29, 0, 3, 0, 0));
     /* a byte behind the body, and a byte too few */
     CHECK(host(two, 30, 0, 2, 20, 1));
-    CHECK(no_host(two, 28, 0, 2, 3, 25, OWN(1)));
+    CHECK(no_host(two, 28, 0, 2, 3, 25));
     /* two brokers with one number: the first, also where its host is empty */
     CHECK(host(B(COUNT(2), COUNT(7), 0, 1, 'a', COUNT(1), COUNT(7), 0, 2, 'b', 'c', COUNT(2), NONE), 31, 0, 7, 10, 1));
     CHECK(host(B(COUNT(2), COUNT(7), 0, 0, COUNT(1), COUNT(7), 0, 2, 'b', 'c', COUNT(2), NONE), 30, 0, 7, 10, 0));
     /* a negative node is that number, and no other */
     CHECK(host(B(COUNT(1), NONE, 0, 1, 'n', COUNT(1), COUNT(0)), 19, 0, -1, 10, 1));
-    CHECK(no_broker(B(COUNT(1), NONE, 0, 1, 'n', COUNT(1), COUNT(0)), 19, 0, INT64_C(4294967295)));
+    CHECK(no_host(B(COUNT(1), NONE, 0, 1, 'n', COUNT(1), COUNT(0)), 19, 0, INT64_C(4294967295), 0, 0));
     /* damage behind the broker: in the next one, in a rack, in a topic */
-    CHECK(no_host(B(COUNT(2), COUNT(1), 0, 1, 'h', COUNT(1), COUNT(2), 0, 1, 0xff, COUNT(1), COUNT(0)), 30, 0, 1, 7, 21, ROW(1, 1)));
-    CHECK(no_host(B(COUNT(1), COUNT(1), 0, 1, 'h', COUNT(1), 0xff, 0xfe, COUNT(1), COUNT(0)), 25, 1, 1, 4, 15, ROW(0, 3)));
-    CHECK(no_host(B(COUNT(1), COUNT(1), 0, 1, 'h', COUNT(1), COUNT(1), 0, 0, 0xff, 0xff, COUNT(0)), 27, 0, 1, 4, 21, ROW(0, 1)));
+    CHECK(no_host(B(COUNT(2), COUNT(1), 0, 1, 'h', COUNT(1), COUNT(2), 0, 1, 0xff, COUNT(1), COUNT(0)), 30, 0, 1, 7, 21));
+    CHECK(no_host(B(COUNT(1), COUNT(1), 0, 1, 'h', COUNT(1), 0xff, 0xfe, COUNT(1), COUNT(0)), 25, 1, 1, 4, 15));
+    CHECK(no_host(B(COUNT(1), COUNT(1), 0, 1, 'h', COUNT(1), COUNT(1), 0, 0, 0xff, 0xff, COUNT(0)), 27, 0, 1, 4, 21));
     /* more brokers than any table here has rows: there is no 10 */
     static uint8_t many[4 + 1000 * 10 + 4] = {0, 0, 3, 0xe8};
     many[4 + 999 * 10 + 3] = 9;
     CHECK(host(many, sizeof many, 0, 9, 10000, 0));
     CHECK(host(many, sizeof many, 0, 0, 10, 0));
-    CHECK(no_broker(many, sizeof many, 0, 8));
-    CHECK(no_metadata(metadata(many, sizeof many, 0, ample), 10, 0, 1000, NOWHERE));
+    CHECK(no_host(many, sizeof many, 0, 8, 0, 0));
+    CHECK(no_metadata(metadata(many, sizeof many, 0, ample), 10, 0, 1000));
 }
 
 /* ---- Metadata requests, written */
@@ -319,7 +278,7 @@ static void asks(int line, int64_t v, const uint8_t *lent, size_t size, const in
 {
     check(__FILE__, line, "in more room", USED(put_metadata(64, v, lent, size, row, topics, cells), (int64_t)n) && wrote(bytes, n));
     check(__FILE__, line, "in just enough", USED(put_metadata(n, v, lent, size, row, topics, cells), (int64_t)n) && wrote(bytes, n));
-    check(__FILE__, line, "in a byte less", not_written(put_metadata(n - 1, v, lent, size, row, topics, cells), 10, (int64_t)n, REQUEST, NOWHERE));
+    check(__FILE__, line, "in a byte less", not_written(put_metadata(n - 1, v, lent, size, row, topics, cells), 10, (int64_t)n));
 }
 #define ASKS(v, row, topics, cells, ...) asks(__LINE__, v, lent, 3, row, topics, cells, B(__VA_ARGS__), LEN(__VA_ARGS__))
 
@@ -334,7 +293,7 @@ static void metadata_written(void)
         ASKS(v, C(2, 0, 0), names, 4, COUNT(2), 0, 1, 'a', 0, 2, 'b', 'c');
         ASKS(v, C(2, 2, 1), names, 4, COUNT(2), 0, 1, 'a', 0, 2, 'b', 'c');
         ASKS(v, C(2, 2, 0), names, 4, COUNT(2), 0, 1, 'a', 0, 2, 'b', 'c');
-        CHECK(not_written(put_metadata(0, v, lent, 3, C(-1, 0, 0), no_cells, 0), 10, 4, REQUEST, NOWHERE));
+        CHECK(not_written(put_metadata(0, v, lent, 3, C(-1, 0, 0), no_cells, 0), 10, 4));
     }
     /* unset is true, whatever the flag; any kind but 0 is set; any flag but 0 is true */
     ASKS(4, C(-1, 0, 0), no_cells, 0, NONE, 1);
@@ -353,40 +312,40 @@ static void metadata_written(void)
 
     for (int64_t v = 0; v < 5; v++) {
         /* counts other than the rows, null with rows, below null */
-        CHECK(not_written(put_metadata(64, v, lent, 3, C(1, 0, 0), names, 4), 13, 0, REQUEST, NOWHERE));
-        CHECK(not_written(put_metadata(64, v, lent, 3, C(3, 0, 0), names, 4), 13, 0, REQUEST, NOWHERE));
-        CHECK(not_written(put_metadata(64, v, lent, 3, C(2, 0, 0), names, 3), 13, 0, REQUEST, NOWHERE));
-        CHECK(not_written(put_metadata(64, v, lent, 3, C(0, 0, 0), names, 2), 13, 0, REQUEST, NOWHERE));
-        CHECK(not_written(put_metadata(64, v, lent, 3, C(-1, 0, 0), names, 2), 13, 0, REQUEST, NOWHERE));
-        CHECK(not_written(put_metadata(64, v, lent, 3, C(-2, 0, 0), no_cells, 0), 13, 0, REQUEST, NOWHERE));
-        CHECK(not_written(put_metadata(64, v, lent, 3, C(INT64_MIN, 0, 0), no_cells, 0), 13, 0, REQUEST, NOWHERE));
+        CHECK(not_written(put_metadata(64, v, lent, 3, C(1, 0, 0), names, 4), 13, 0));
+        CHECK(not_written(put_metadata(64, v, lent, 3, C(3, 0, 0), names, 4), 13, 0));
+        CHECK(not_written(put_metadata(64, v, lent, 3, C(2, 0, 0), names, 3), 13, 0));
+        CHECK(not_written(put_metadata(64, v, lent, 3, C(0, 0, 0), names, 2), 13, 0));
+        CHECK(not_written(put_metadata(64, v, lent, 3, C(-1, 0, 0), names, 2), 13, 0));
+        CHECK(not_written(put_metadata(64, v, lent, 3, C(-2, 0, 0), no_cells, 0), 13, 0));
+        CHECK(not_written(put_metadata(64, v, lent, 3, C(INT64_MIN, 0, 0), no_cells, 0), 13, 0));
         /* parts outside what is lent; sums do not wrap */
-        CHECK(not_written(put_metadata(64, v, lent, 3, C(1, 0, 0), C(2, 2), 2), 13, 0, REQUEST, NOWHERE));
-        CHECK(not_written(put_metadata(64, v, lent, 3, C(1, 0, 0), C(4, 0), 2), 13, 0, REQUEST, NOWHERE));
-        CHECK(not_written(put_metadata(64, v, lent, 3, C(1, 0, 0), C(0, -1), 2), 13, 0, REQUEST, NOWHERE));
-        CHECK(not_written(put_metadata(64, v, lent, 3, C(1, 0, 0), C(-1, 1), 2), 13, 0, REQUEST, NOWHERE));
-        CHECK(not_written(put_metadata(64, v, lent, 3, C(1, 0, 0), C(-1, 2), 2), 13, 0, REQUEST, NOWHERE));
-        CHECK(not_written(put_metadata(64, v, lent, 3, C(1, 0, 0), C(INT64_MAX, INT64_MAX), 2), 13, 0, REQUEST, NOWHERE));
-        CHECK(not_written(put_metadata(64, v, lent, 0, C(1, 0, 0), C(0, 1), 2), 13, 0, REQUEST, NOWHERE));
+        CHECK(not_written(put_metadata(64, v, lent, 3, C(1, 0, 0), C(2, 2), 2), 13, 0));
+        CHECK(not_written(put_metadata(64, v, lent, 3, C(1, 0, 0), C(4, 0), 2), 13, 0));
+        CHECK(not_written(put_metadata(64, v, lent, 3, C(1, 0, 0), C(0, -1), 2), 13, 0));
+        CHECK(not_written(put_metadata(64, v, lent, 3, C(1, 0, 0), C(-1, 1), 2), 13, 0));
+        CHECK(not_written(put_metadata(64, v, lent, 3, C(1, 0, 0), C(-1, 2), 2), 13, 0));
+        CHECK(not_written(put_metadata(64, v, lent, 3, C(1, 0, 0), C(INT64_MAX, INT64_MAX), 2), 13, 0));
+        CHECK(not_written(put_metadata(64, v, lent, 0, C(1, 0, 0), C(0, 1), 2), 13, 0));
         /* a name that is no text: before 10, and behind the 13 of a later row */
-        CHECK(not_written(put_metadata(64, v, B(0xc0, 0x80), 2, C(1, 0, 0), C(0, 2), 2), 7, 0, REQUEST, ROW(0, 0)));
-        CHECK(not_written(put_metadata(0, v, B(0xc0, 0x80), 2, C(1, 0, 0), C(0, 2), 2), 7, 0, REQUEST, ROW(0, 0)));
-        CHECK(not_written(put_metadata(64, v, B(0xc0, 0x80), 2, C(2, 0, 0), C(0, 2, 0, 3), 4), 13, 0, REQUEST, NOWHERE));
+        CHECK(not_written(put_metadata(64, v, B(0xc0, 0x80), 2, C(1, 0, 0), C(0, 2), 2), 7, 0));
+        CHECK(not_written(put_metadata(0, v, B(0xc0, 0x80), 2, C(1, 0, 0), C(0, 2), 2), 7, 0));
+        CHECK(not_written(put_metadata(64, v, B(0xc0, 0x80), 2, C(2, 0, 0), C(0, 2, 0, 3), 4), 13, 0));
         CHECK(USED(put_metadata(BYTES, v, large, 32767, C(1, 0, 0), C(0, 32767), 2), v < 4 ? 32773 : 32774));
-        CHECK(not_written(put_metadata(BYTES, v, large, 32768, C(1, 0, 0), C(0, 32768), 2), 11, 0, REQUEST, ROW(0, 0)));
-        CHECK(not_written(put_metadata(0, v, large, 32768, C(1, 0, 0), C(0, 32768), 2), 11, 0, REQUEST, ROW(0, 0)));
-        CHECK(not_written(put_metadata(BYTES, v, large, 32768, C(2, 0, 0), C(0, 32768), 2), 13, 0, REQUEST, NOWHERE));
+        CHECK(not_written(put_metadata(BYTES, v, large, 32768, C(1, 0, 0), C(0, 32768), 2), 11, 0));
+        CHECK(not_written(put_metadata(0, v, large, 32768, C(1, 0, 0), C(0, 32768), 2), 11, 0));
+        CHECK(not_written(put_metadata(BYTES, v, large, 32768, C(2, 0, 0), C(0, 32768), 2), 13, 0));
     }
-    CHECK(not_written(put_metadata(64, 5, lent, 3, C(2, 0, 0), names, 4), 1, 0, REQUEST, NOWHERE));
-    CHECK(not_written(put_metadata(64, -1, lent, 3, C(2, 0, 0), names, 4), 1, 0, REQUEST, NOWHERE));
-    CHECK(not_written(put_metadata(64, -32768, lent, 3, C(-1, 0, 0), no_cells, 0), 1, 0, REQUEST, NOWHERE));
-    CHECK(not_written(put_metadata(64, 5, lent, 3, C(1, 0, 0), C(2, 2), 2), 1, 0, REQUEST, NOWHERE));
+    CHECK(not_written(put_metadata(64, 5, lent, 3, C(2, 0, 0), names, 4), 1, 0));
+    CHECK(not_written(put_metadata(64, -1, lent, 3, C(2, 0, 0), names, 4), 1, 0));
+    CHECK(not_written(put_metadata(64, -32768, lent, 3, C(-1, 0, 0), no_cells, 0), 1, 0));
+    CHECK(not_written(put_metadata(64, 5, lent, 3, C(1, 0, 0), C(2, 2), 2), 1, 0));
     /* in the order of the names; in one name its length first */
     static uint8_t bad[32768];
     memset(bad, 0xff, sizeof bad);
-    CHECK(not_written(put_metadata(64, 1, bad, 32768, C(2, 0, 0), C(0, 1, 0, 32768), 4), 7, 0, REQUEST, ROW(0, 0)));
-    CHECK(not_written(put_metadata(64, 1, bad, 32768, C(2, 0, 0), C(0, 32768, 0, 1), 4), 11, 0, REQUEST, ROW(0, 0)));
-    CHECK(not_written(put_metadata(64, 1, bad, 32768, C(2, 0, 0), C(0, 0, 0, 1), 4), 7, 0, REQUEST, ROW(1, 0)));
+    CHECK(not_written(put_metadata(64, 1, bad, 32768, C(2, 0, 0), C(0, 1, 0, 32768), 4), 7, 0));
+    CHECK(not_written(put_metadata(64, 1, bad, 32768, C(2, 0, 0), C(0, 32768, 0, 1), 4), 11, 0));
+    CHECK(not_written(put_metadata(64, 1, bad, 32768, C(2, 0, 0), C(0, 0, 0, 1), 4), 7, 0));
 
     /* 31 names of 32,767 bytes and one of 32,731: 4 + 31 * 32,769 + 32,733 bytes, which is the most */
     int64_t rows[64] = {0};
@@ -394,11 +353,11 @@ static void metadata_written(void)
         rows[2 * i + 1] = 32767;
     rows[63] = 32731;
     CHECK(USED(put_metadata(BEFROLAN_MOST, 3, large, 32767, C(32, 2, 1), rows, 64), BEFROLAN_MOST));
-    CHECK(not_written(put_metadata(BEFROLAN_MOST - 1, 3, large, 32767, C(32, 2, 1), rows, 64), 10, BEFROLAN_MOST, REQUEST, NOWHERE));
-    CHECK(not_written(put_metadata(BYTES, 4, large, 32767, C(32, 2, 1), rows, 64), 2, 0, REQUEST, NOWHERE));
+    CHECK(not_written(put_metadata(BEFROLAN_MOST - 1, 3, large, 32767, C(32, 2, 1), rows, 64), 10, BEFROLAN_MOST));
+    CHECK(not_written(put_metadata(BYTES, 4, large, 32767, C(32, 2, 1), rows, 64), 2, 0));
     rows[63] = 32732;
-    CHECK(not_written(put_metadata(BYTES, 3, large, 32767, C(32, 2, 1), rows, 64), 2, 0, REQUEST, NOWHERE));
-    CHECK(not_written(put_metadata(0, 3, large, 32767, C(32, 2, 1), rows, 64), 2, 0, REQUEST, NOWHERE));
+    CHECK(not_written(put_metadata(BYTES, 3, large, 32767, C(32, 2, 1), rows, 64), 2, 0));
+    CHECK(not_written(put_metadata(0, 3, large, 32767, C(32, 2, 1), rows, 64), 2, 0));
 }
 
 void metadata_and_hosts(void)

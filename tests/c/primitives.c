@@ -47,7 +47,7 @@ static int took(uint64_t kind, const uint8_t *m, size_t n, int64_t used, int64_t
 static int no_primitive_at(uint64_t kind, const uint8_t *m, size_t n, int64_t number, int64_t place)
 {
     befrolan_primitive_numbers r = befrolan_read_primitive(m, n, kind);
-    return REFUSED(r, number, place, 0, BEFROLAN_MESSAGE_NONE, BEFROLAN_NOWHERE, BEFROLAN_NOWHERE) && r.form == 0 && r.value == 0 && r.length == 0;
+    return REFUSED(r, number, place, 0) && r.form == 0 && r.value == 0 && r.length == 0;
 }
 
 static int no_primitive(uint64_t kind, const uint8_t *m, size_t n, int64_t number)
@@ -135,26 +135,20 @@ static befrolan_numbers put(size_t room, uint64_t kind, uint64_t null, int64_t v
     return befrolan_write_primitive(out(), room, kind, null, value, content, n);
 }
 
-/* what is written by itself is of no message, and has neither row nor field */
-static int not_put(befrolan_numbers r, int64_t number, int64_t need)
-{
-    return not_written(r, number, need, BEFROLAN_MESSAGE_NONE, NOWHERE);
-}
-
 #define PUT(kind, null, value, content, n, ...) \
     CHECK(USED(put(LEN(__VA_ARGS__), kind, null, value, content, n), (int64_t)LEN(__VA_ARGS__)) && wrote(B(__VA_ARGS__), LEN(__VA_ARGS__))); \
-    CHECK(not_put(put(LEN(__VA_ARGS__) - 1, kind, null, value, content, n), 10, (int64_t)LEN(__VA_ARGS__)))
+    CHECK(not_written(put(LEN(__VA_ARGS__) - 1, kind, null, value, content, n), 10, (int64_t)LEN(__VA_ARGS__)))
 
 static void numbers_written(void)
 {
     PUT(BEFROLAN_INT8, 0, -1, none, 0, 0xff);
     PUT(BEFROLAN_INT8, 1, -128, E9, 12, 0x80);
-    CHECK(not_put(put(64, BEFROLAN_INT8, 0, 128, none, 0), 11, 0));
-    CHECK(not_put(put(64, BEFROLAN_INT8, 0, -129, none, 0), 11, 0));
+    CHECK(not_written(put(64, BEFROLAN_INT8, 0, 128, none, 0), 11, 0));
+    CHECK(not_written(put(64, BEFROLAN_INT8, 0, -129, none, 0), 11, 0));
     PUT(BEFROLAN_INT16, 0, 32767, none, 0, 0x7f, 0xff);
-    CHECK(not_put(put(64, BEFROLAN_INT16, 0, 32768, none, 0), 11, 0));
+    CHECK(not_written(put(64, BEFROLAN_INT16, 0, 32768, none, 0), 11, 0));
     PUT(BEFROLAN_INT32, 0, -INT64_C(2147483648), none, 0, 0x80, 0, 0, 0);
-    CHECK(not_put(put(64, BEFROLAN_INT32, 0, INT64_C(2147483648), none, 0), 11, 0));
+    CHECK(not_written(put(64, BEFROLAN_INT32, 0, INT64_C(2147483648), none, 0), 11, 0));
     PUT(BEFROLAN_INT64, 0, INT64_C(72623859790382856), none, 0, 1, 2, 3, 4, 5, 6, 7, 8);
     PUT(BEFROLAN_INT64, 0, -2, none, 0, 0xff, 0xff, 0xff, 0xff, 0xff, 0xff, 0xff, 0xfe);
     PUT(BEFROLAN_BOOLEAN, 0, 7, none, 0, 1);
@@ -163,21 +157,21 @@ static void numbers_written(void)
     PUT(BEFROLAN_UNSIGNED_VARINT, 0, -1, none, 0, 0xff, 0xff, 0xff, 0xff, 0xff, 0xff, 0xff, 0xff, 0xff, 1);
     PUT(BEFROLAN_VARINT, 0, -1, none, 0, 1);
     PUT(BEFROLAN_VARINT, 0, -INT64_C(2147483648), none, 0, 0xff, 0xff, 0xff, 0xff, 0xf);
-    CHECK(not_put(put(64, BEFROLAN_VARINT, 0, INT64_C(2147483648), none, 0), 11, 0));
+    CHECK(not_written(put(64, BEFROLAN_VARINT, 0, INT64_C(2147483648), none, 0), 11, 0));
     PUT(BEFROLAN_VARLONG, 0, INT64_MIN, none, 0, 0xff, 0xff, 0xff, 0xff, 0xff, 0xff, 0xff, 0xff, 0xff, 1);
     PUT(BEFROLAN_ARRAY, 0, 3, none, 0, 0, 0, 0, 3);
     PUT(BEFROLAN_ARRAY, 1, 3, none, 0, 0xff, 0xff, 0xff, 0xff);
     PUT(BEFROLAN_ARRAY, 0, 2147483647, none, 0, MOST32);
-    CHECK(not_put(put(64, BEFROLAN_ARRAY, 0, INT64_C(2147483648), none, 0), 2, 0));
-    CHECK(not_put(put(64, BEFROLAN_ARRAY, 0, INT64_C(4294967296), none, 0), 2, 0));
-    CHECK(not_put(put(64, BEFROLAN_ARRAY, 0, -1, none, 0), 2, 0));
+    CHECK(not_written(put(64, BEFROLAN_ARRAY, 0, INT64_C(2147483648), none, 0), 2, 0));
+    CHECK(not_written(put(64, BEFROLAN_ARRAY, 0, INT64_C(4294967296), none, 0), 2, 0));
+    CHECK(not_written(put(64, BEFROLAN_ARRAY, 0, -1, none, 0), 2, 0));
     PUT(BEFROLAN_COMPACT_ARRAY, 0, 299, none, 0, 0xac, 2);
     PUT(BEFROLAN_COMPACT_ARRAY, 0, INT64_C(2147483648), none, 0, 0x81, 0x80, 0x80, 0x80, 8);
     PUT(BEFROLAN_COMPACT_ARRAY, 0, -2, none, 0, 0xff, 0xff, 0xff, 0xff, 0xff, 0xff, 0xff, 0xff, 0xff, 1);
-    CHECK(not_put(put(64, BEFROLAN_COMPACT_ARRAY, 0, -1, none, 0), 2, 0));
+    CHECK(not_written(put(64, BEFROLAN_COMPACT_ARRAY, 0, -1, none, 0), 2, 0));
     PUT(BEFROLAN_COMPACT_ARRAY, UINT64_C(1) << 63, 2, none, 0, 0);
-    CHECK(not_put(put(64, 18, 0, 0, none, 0), 1, 0));
-    CHECK(not_put(put(64, UINT64_MAX, 0, 0, none, 0), 1, 0));
+    CHECK(not_written(put(64, 18, 0, 0, none, 0), 1, 0));
+    CHECK(not_written(put(64, UINT64_MAX, 0, 0, none, 0), 1, 0));
 }
 
 /* Data of 2^31 bytes, which an Int32 length cannot carry: over the limit, and not looked at. */
@@ -189,10 +183,10 @@ static void huge_data(void)
         puts("calls: 2^31 bytes cannot be had here; four checks are left out");
         return;
     }
-    CHECK(not_put(put(64, BEFROLAN_BYTES, 0, 0, data, n), 2, 0));
-    CHECK(not_put(put(64, BEFROLAN_NULLABLE_BYTES, 0, 0, data, n), 2, 0));
-    CHECK(not_put(put(64, BEFROLAN_RECORDS, 0, 0, data, n), 2, 0));
-    CHECK(not_put(put(64, BEFROLAN_COMPACT_BYTES, 0, 0, data, n), 2, 0));
+    CHECK(not_written(put(64, BEFROLAN_BYTES, 0, 0, data, n), 2, 0));
+    CHECK(not_written(put(64, BEFROLAN_NULLABLE_BYTES, 0, 0, data, n), 2, 0));
+    CHECK(not_written(put(64, BEFROLAN_RECORDS, 0, 0, data, n), 2, 0));
+    CHECK(not_written(put(64, BEFROLAN_COMPACT_BYTES, 0, 0, data, n), 2, 0));
     free(data);
 }
 
@@ -212,13 +206,13 @@ static void parts_written(void)
     PUT(BEFROLAN_COMPACT_NULLABLE_STRING, 0, 0, ab, 2, 3, 'a', 'b');
     PUT(BEFROLAN_COMPACT_NULLABLE_STRING, 1, 0, ab, 2, 0);
     for (uint64_t k = BEFROLAN_STRING; k <= BEFROLAN_COMPACT_NULLABLE_STRING; k++)
-        CHECK(not_put(put(64, k, 0, 0, bad, 2), 7, 0));
+        CHECK(not_written(put(64, k, 0, 0, bad, 2), 7, 0));
     CHECK(USED(put(BYTES, BEFROLAN_STRING, 0, 0, large, 32767), 32769));
-    CHECK(not_put(put(BYTES, BEFROLAN_STRING, 0, 0, large, 32768), 11, 0));
-    CHECK(not_put(put(BYTES, BEFROLAN_NULLABLE_STRING, 0, 0, large, 32768), 11, 0));
+    CHECK(not_written(put(BYTES, BEFROLAN_STRING, 0, 0, large, 32768), 11, 0));
+    CHECK(not_written(put(BYTES, BEFROLAN_NULLABLE_STRING, 0, 0, large, 32768), 11, 0));
     CHECK(USED(put(BEFROLAN_MOST, BEFROLAN_BYTES, 0, 0, large, BEFROLAN_MOST - 4), BEFROLAN_MOST));
-    CHECK(not_put(put(BYTES, BEFROLAN_BYTES, 0, 0, large, BEFROLAN_MOST - 3), 2, 0));
-    CHECK(not_put(put(0, BEFROLAN_BYTES, 0, 0, large, BEFROLAN_MOST - 3), 2, 0));
+    CHECK(not_written(put(BYTES, BEFROLAN_BYTES, 0, 0, large, BEFROLAN_MOST - 3), 2, 0));
+    CHECK(not_written(put(0, BEFROLAN_BYTES, 0, 0, large, BEFROLAN_MOST - 3), 2, 0));
 }
 
 /* ---- tagged fields */
@@ -232,7 +226,7 @@ static int tags(const uint8_t *m, size_t n, size_t room, int64_t used, int64_t c
 static int no_tags(const uint8_t *m, size_t n, size_t room, int64_t number, int64_t place, int64_t need)
 {
     befrolan_tags_numbers r = befrolan_read_tagged_fields(m, n, table(first), room);
-    return REFUSED(r, number, place, need, BEFROLAN_MESSAGE_NONE, BEFROLAN_NOWHERE, BEFROLAN_NOWHERE) && r.tags == 0 && holds(first, no_cells, 0);
+    return REFUSED(r, number, place, need) && r.tags == 0 && holds(first, no_cells, 0);
 }
 
 static befrolan_numbers put_tags(size_t room, const uint8_t *lent, size_t size, int64_t count, const int64_t *cells, size_t n)
@@ -255,13 +249,13 @@ static void tagged_fields(void)
     const uint8_t *lent = B(0xaa);
     const int64_t *rows = C(5, 0, 1, 6, 1, 0, 5, 0, 1);
     CHECK(USED(put_tags(9, lent, 1, 3, rows, 9), 9) && wrote(m, 9));
-    CHECK(not_put(put_tags(8, lent, 1, 3, rows, 9), 10, 9));
+    CHECK(not_written(put_tags(8, lent, 1, 3, rows, 9), 10, 9));
     CHECK(USED(put_tags(64, lent, 1, -1, no_cells, 0), 1) && wrote(B(0), 1));
     CHECK(USED(put_tags(64, lent, 1, 0, rows, 2), 1) && wrote(B(0), 1));
-    CHECK(not_put(put_tags(64, lent, 1, 2, rows, 9), 13, 0));
-    CHECK(not_put(put_tags(64, lent, 1, -2, no_cells, 0), 13, 0));
-    CHECK(not_put(put_tags(64, lent, 1, 1, C(5, 0, 2), 3), 13, 0));
-    CHECK(not_put(put_tags(64, lent, 1, 1, C(5, -1, 1), 3), 13, 0));
+    CHECK(not_written(put_tags(64, lent, 1, 2, rows, 9), 13, 0));
+    CHECK(not_written(put_tags(64, lent, 1, -2, no_cells, 0), 13, 0));
+    CHECK(not_written(put_tags(64, lent, 1, 1, C(5, 0, 2), 3), 13, 0));
+    CHECK(not_written(put_tags(64, lent, 1, 1, C(5, -1, 1), 3), 13, 0));
     CHECK(USED(put_tags(64, lent, 1, 1, C(-1, 1, 0), 3), 12) && wrote(B(1, 0xff, 0xff, 0xff, 0xff, 0xff, 0xff, 0xff, 0xff, 0xff, 1, 0), 12));
 }
 

@@ -1,17 +1,12 @@
-"""The night desk's command against what it must say: stored cases, bodies made here from values, the names of refused fields, input that is no body, and questions that cannot be asked."""
+"""The night desk's command against what it must say: stored cases, bodies made here from values, input that is no body, and questions that cannot be asked."""
 import json
 import pathlib
 import random
-import re
 import struct
 import subprocess
 import sys
 
 ROOT = pathlib.Path(__file__).resolve().parent.parent.parent
-sys.dont_write_bytecode = True
-sys.path.append(str(ROOT / "tools"))
-import guide
-
 wrong = []
 tried = 0
 
@@ -33,12 +28,6 @@ def check(what, found, wanted):
     if found != wanted:
         wrong.append(what)
         print(f"WRONG: {what}\n  wanted {str(wanted)[:2000]}\n  found  {str(found)[:2000]}")
-
-
-def named(number, row, field, path):
-    """What JSON says of a refusal's field, or with -1 and None of a refusal that has none. The messages by their numbers."""
-    names = {1: "ApiVersions request", 2: "ApiVersions response", 4: "Metadata response", 6: "Fetch response", 7: "request header", 8: "response header"}
-    return {"message": {"number": number, "name": names[number]}, "row": row, "field": field, "path": path}
 
 
 def stored():
@@ -143,13 +132,13 @@ def letters():
     """Each bad letter in a text of each message. What comes after the text begins with 80, which would go on a sequence."""
     broker = i32(7) + string("h") + i32(9) + string(None)
     texts = (
-        (["read", "metadata", "4"], i32(0) + array([b""], lambda _: broker) + string("c") + i32(1) + i32(1) + i16(0), b"\x80" + i32(0), named(4, 0, 1, "topics[0].name")),
-        (["read", "metadata", "0"], i32(1) + i32(7), b"\x80\0\0\0" + i32(0), named(4, 0, 1, "brokers[0].host")),
-        (["host", "7", "4"], i32(0) + i32(1) + broker[:-2], b"\x80\0" + i32(1) + i32(0), named(4, 0, 3, "brokers[0].rack")),
-        (["read", "fetch", "4"], i32(0) + i32(1), b"\x80\0\0\0", named(6, 0, 0, "responses[0].topic")),
+        (["read", "metadata", "4"], i32(0) + array([b""], lambda _: broker) + string("c") + i32(1) + i32(1) + i16(0), b"\x80" + i32(0)),
+        (["read", "metadata", "0"], i32(1) + i32(7), b"\x80\0\0\0" + i32(0)),
+        (["host", "7", "4"], i32(0) + i32(1) + broker[:-2], b"\x80\0" + i32(1) + i32(0)),
+        (["read", "fetch", "4"], i32(0) + i32(1), b"\x80\0\0\0"),
     )
     for contents, marked, words in LETTERS:
-        for question, front, after, field in texts:
+        for question, front, after in texts:
             body = front + i16(len(contents)) + contents + after
             place = len(front) + 2 + marked
             missing = body.find(b"(", place)
@@ -157,8 +146,7 @@ def letters():
             out, _, code = asked([*question, "--raw"], body)
             under = next((above[10:][line.index("^") - 10:][:2] for above, line in zip(out.split("\n"), out.split("\n")[1:]) if "^^" in line), "")
             check(f"{question}, {contents[-9:]}: its words and its mark", (said in out.split("\n"), under, code), (True, f"{body[place]:02x}", 1))
-            check(f"{question}, {contents[-9:]}: its field and place", out.split("\n")[1], f"{field['path']} of a {field['message']['name']}, place {place:,} of {len(body):,} bytes")
-            refusal = {"number": 7, "means": "a text is not UTF-8", "place": place, "need": 0, **field, "letter": said}
+            refusal = {"number": 7, "means": "a text is not UTF-8", "place": place, "need": 0, "letter": said}
             check(f"{question}, {contents[-9:]}, in JSON", told([*question, "--raw"], body), ({"message": out.split(":")[0], "accepted": False, "refusal": refusal}, 1))
 
 
@@ -173,10 +161,10 @@ def sizes():
           (1048576, {"throttle_time_ms": 0, "responses": [{"topic": "t", "partitions": [partition]}]}, 0))
     for more in (1, 3000000):
         body = front + i32(fill + more) + bytes(fill + more)
-        for words, message in ((["read", "fetch", "4"], 6), (["read", "metadata", "4"], 4), (["agree", "3"], 2), (["host", "1", "4"], 4)):
+        for words in (["read", "fetch", "4"], ["read", "metadata", "4"], ["agree", "3"], ["host", "1", "4"]):
             said, code = told(words, body)
             check(f"{words}, {more} over the limit", (said.get("refusal"), code),
-                  ({"number": 2, "means": "the message has more than 1,048,576 bytes", "place": 0, "need": 0, **named(message, -1, -1, None)}, 1))
+                  ({"number": 2, "means": "the message has more than 1,048,576 bytes", "place": 0, "need": 0}, 1))
 
 
 def large():
@@ -282,22 +270,17 @@ def headers():
                       "body_part": {"start": start, "length": len(body)}, "after_frame": len(after)}
             check(f"{side} header {header}, {v}, {len(body)} and {len(after)} bytes after it", (said, code), (wanted, 0))
     for what, words, given, refusal in (
-            ("no bytes", ["frame", "response", "0"], b"", (3, 0, -1, -1, None)), ("a cut size", ["frame", "request", "1"], b"\0\0\0", (3, 0, -1, -1, None)),
-            ("size -1", ["frame", "request", "2"], b"\xff" * 4 + bytes(20), (14, 0, -1, -1, None)),
-            ("a size over the limit", ["frame", "response", "1"], i32(1048577), (14, 0, -1, -1, None)),
-            ("the same with all its bytes", ["frame", "response", "1"], i32(1048577) + bytes(1048577), (14, 0, -1, -1, None)),
-            ("a frame that is cut", ["frame", "response", "0"], i32(6) + i32(7) + b"\0", (3, 0, -1, -1, None)),
-            ("a size of 3", ["frame", "response", "0"], i32(3) + i32(7), (3, 4, -1, 0, "correlation_id")),
-            ("header 3", ["frame", "request", "3"], bytes(20), (1, 0, -1, -1, None)),
-            ("a header far outside", ["frame", "response", "65536"], framed(i32(7), b""), (1, 0, -1, -1, None)),
-            ("a name that goes on after its frame", ["frame", "request", "1"], i32(11) + bytes(8) + i16(3) + b"abcd", (3, 12, -1, 3, "client_id")),
-            ("a name that is too short", ["frame", "request", "1"], framed(bytes(8) + i16(-2), b""), (4, 12, -1, 3, "client_id")),
-            ("tags without an end", ["frame", "response", "1"], framed(i32(7) + b"\x80" * 10, b""), (5, 8, -1, 1, "_tagged_fields")),
-            ("the second tag's data", ["frame", "response", "1"], framed(i32(7) + b"\2\5\0\6\3a", b""), (3, 12, 1, 1, "_tagged_fields[1].data"))):
+            ("no bytes", ["frame", "response", "0"], b"", (3, 0)), ("a cut size", ["frame", "request", "1"], b"\0\0\0", (3, 0)),
+            ("size -1", ["frame", "request", "2"], b"\xff" * 4 + bytes(20), (14, 0)), ("a size over the limit", ["frame", "response", "1"], i32(1048577), (14, 0)),
+            ("the same with all its bytes", ["frame", "response", "1"], i32(1048577) + bytes(1048577), (14, 0)),
+            ("a frame that is cut", ["frame", "response", "0"], i32(6) + i32(7) + b"\0", (3, 0)),
+            ("a size of 3", ["frame", "response", "0"], i32(3) + i32(7), (3, 4)), ("header 3", ["frame", "request", "3"], bytes(20), (1, 0)),
+            ("a header far outside", ["frame", "response", "65536"], framed(i32(7), b""), (1, 0)),
+            ("a name that goes on after its frame", ["frame", "request", "1"], i32(11) + bytes(8) + i16(3) + b"abcd", (3, 12)),
+            ("a name that is too short", ["frame", "request", "1"], framed(bytes(8) + i16(-2), b""), (4, 12)),
+            ("tags without an end", ["frame", "response", "1"], framed(i32(7) + b"\x80" * 10, b""), (5, 8))):
         said, code = told([*words, "--raw"], given)
-        number, place, *field = refusal
-        wanted = {"number": number, "place": place, "need": 0, **named(7 if "request" in words else 8, *field)}
-        check(what, (dict(said.get("refusal", {}), means=""), code), (dict(wanted, means=""), 1))
+        check(what, (said.get("refusal", {}).get("number"), said.get("refusal", {}).get("place"), code), (*refusal, 1))
     out, _, code = asked(["frame", "response", "1", "--raw"], i32(1048576) + bytes(1048576))
     check("the longest frame", (out, code), ("response frame, header 1: accepted, 1048580 of 1048580 bytes used\ncorrelation_id: 0\n_tagged_fields: []\nbody: 1048571 bytes at 9\n", 0))
     tag = {"tag": 2, "data": ""}
@@ -334,107 +317,17 @@ def bodies_in_frames():
         check(f"the header of a request of version {version}", (said["header"], code), (header, 0))
     # each bad letter in a frame: the mark is under it, and the place of a byte in the words is one of the frame
     for contents, marked, words in LETTERS:
-        for field, question, before, after in (
-                (named(4, 0, 1, "brokers[0].host"), ["read", "metadata", "0", "--frame"], short + i32(1) + i32(7), b"\x80\0\0\0" + i32(0)),
-                (named(7, -1, 3, "client_id"), ["frame", "request", "1"], i16(18) + i16(3) + i32(7), b"\x80")):
+        for side, question, before, after in (
+                ("response", ["read", "metadata", "0", "--frame"], short + i32(1) + i32(7), b"\x80\0\0\0" + i32(0)),
+                ("request", ["frame", "request", "1"], i16(18) + i16(3) + i32(7), b"\x80")):
             frame = framed(before, i16(len(contents)) + contents + after)
             place = 4 + len(before) + 2 + marked
             said = words.replace("PLACE", str(frame.find(b"(", place)))
             out, _, code = asked([*question, "--raw"], frame)
             under = next((above[10:][line.index("^") - 10:][:2] for above, line in zip(out.split("\n"), out.split("\n")[1:]) if "^^" in line), "")
             check(f"{question}, {contents[-9:]}: its words and its mark", (said in out.split("\n"), under, code), (True, f"{frame[place]:02x}", 1))
-            refusal = {"number": 7, "means": "a text is not UTF-8", "place": place, "need": 0, **field, "letter": said}
-            check(f"{question}, {contents[-9:]}, in JSON", told([*question, "--raw"], frame)[0].get("refusal"), refusal)
-
-
-# ---- the names of refused fields
-
-
-def guide_lines():
-    """data/guide.txt, made of the rows in crates/layout/specs/Messages: one line a field, with its name in a comment."""
-    types = {"bool": "BOOLEAN", "isolation": "INT8", "int16": "INT16", "int32": "INT32", "int64": "INT64", "string": "STRING", "nullableString": "NULLABLE_STRING",
-             "records": "RECORDS"}
-    found = {}
-    for file in (ROOT / "crates/layout/specs/Messages").glob("*.antt"):
-        text = file.read_text()
-        lists = {name: re.findall(r"^    (row|rows|tagged) (\d+) (\d+) (.+?) (?:\(|done\)*) +-- (\S+)", body, re.M)
-                 for name, body in re.findall(r"^(\w+) =\n((?:    .*\n)+)", text, re.M)}
-
-        def lines(name, indent):
-            for form, first, last, what, field in lists[name]:
-                words = what.strip("()").split()
-                versions = f"{indent}{first}-{last}"
-                if form == "row":
-                    # The guide has no name for the numbers of an array.
-                    yield f"{versions} {types[words[-1]]} {'' if name == 'nodeRows' else field}".rstrip()
-                elif form == "tagged":
-                    yield f"{versions} TAGS/{what} {field}"
-                else:
-                    _, table, elements = words
-                    yield f"{versions} ARRAY/{table} {field}"
-                    yield from lines(elements, indent + "  ")
-
-        for side, layout, flexible, number in re.findall(r"^(request|response) = .*layout = (\w+); last = \d+; flexible = (\d+); tables = \d+; number = (\d+)", text, re.M):
-            title = f"{side} header" if file.stem == "Headers" else f"{file.stem} {side}"
-            compact = f", compact from {flexible}" if file.stem == "ApiVersions" else ""
-            found[int(number)] = "\n".join([f"{number} {title}{compact}", *lines(layout, "  ")])
-    return "\n\n".join(found[number] for number in sorted(found)) + "\n"
-
-
-def bodies_in_lines():
-    """tests/paths.txt: for each message and version its primitives, as bytes, row, field and path."""
-    for part in (ROOT / "tests/paths.txt").read_text().split("\n\n")[1:]:
-        title, *rows = part.splitlines()
-        number, first, last = map(int, re.fullmatch(r"(\d+) .*, versions (\d+) to (\d+)", title).groups())
-        for version in range(first, last + 1):
-            words = [row.split(" ") for row in rows]
-            yield number, version, [(bytes.fromhex(data), int(row), int(positions[version - first]), path)
-                                    for positions, data, row, path in words if positions[version - first] != "-"]
-
-
-# For each message that is read: its calls, with rooms.
-CALLS = {1: ("request_read {} 0",), 2: ("response_read {} 0 0", "response_read_whole {} 0 0"), 4: ("metadata_read {} 0 0 0 0 0", "host {} 7"), 6: ("fetch_read {} 0 0 0",),
-         7: ("request_frame_read {} 0",), 8: ("response_frame_read {} 0",)}
-
-
-def paths():
-    """Each body cut after every byte: the library names the field that is cut, and the walk finds its path. With another row or field there is none."""
-    check("data/guide.txt", (ROOT / "data/guide.txt").read_text().partition("\n\n")[2], guide_lines())
-    cuts = []
-    for number, version, primitives in bodies_in_lines():
-        body, start = b"".join(data for data, *_ in primitives), 4 if number in (7, 8) else 0
-        at = 0
-        for data, *name in primitives:
-            for end in range(at, at + len(data)):
-                cuts.append((number, version, framed(body[:end], b"") if start else body[:end], start + at, *name))
-            at += len(data)
-    cases = [(f"{call.format(cut[1])} {cut[2].hex() or '-'}", cut) for cut in cuts for call in CALLS[cut[0]]]
-    made = subprocess.run([ROOT / "tools/answers"], input="".join(case + "\n" for case, _ in cases), capture_output=True, text=True).stdout.splitlines()
-    wanted = [f"no 3 {place} 0 {number} {row} {field}" for _, (number, _, _, place, row, field, _) in cases]
-    check("the name of each cut field", [(case, said) for (case, _), said, want in zip(cases, made, wanted) if not f"{said} ".startswith(want + " ")], [])
-    check("cuts", (len(made), len(cuts) > 1000), (len(cases), True))
-    check("the path of each cut field", [(*cut, found) for cut in cuts if (found := guide.path(*cut[:6])) != cut[6]], [])
-    for row, field in ((1, 0), (0, 1), (-1, 0)):
-        found = [cut for cut in cuts if guide.path(*cut[:4], cut[4] + row, cut[5] + field)]
-        check(f"no path with a row {row} more and a field {field} more", found, [])
-    # Other numbers, and a place that is read aloud.
-    partition = i16(0) + i32(0) + i32(1) + i32(-1) + i32(-1)
-    topic = i16(0) + string("t" * 100) + i32(1) + partition
-    for what, words, body, second in (
-            ("a count below null", ["read", "metadata", "0"], i32(0) + i32(3) + topic * 2 + topic[:-8] + i32(-2),
-             "topics[2].partitions[0].replica_nodes of a Metadata response, place 378 of 382 bytes"),
-            ("a node of an array", ["read", "metadata", "0"], i32(0) + i32(1) + topic[:-8] + i32(2) + i32(5),
-             "topics[0].partitions[0].replica_nodes[1] of a Metadata response, place 134 of 134 bytes, which is the end of the message"),
-            ("a place over 1,000", ["read", "metadata", "0"], i32(0) + i32(40) + topic * 33 + topic[:116],
-             "topics[33].partitions[0].leader_id of a Metadata response, place 4,280 of 4,282 bytes"),
-            ("a varint without an end", ["read", "api-versions-request", "3"], b"\1\1\2\5\0" + b"\x80" * 10,
-             "_tagged_fields[1].tag of an ApiVersions request, place 5 of 15 bytes"),
-            ("bytes left", ["whole", "0"], i16(0) + i32(0) + b"\0", "place 6 of 7 bytes")):
-        check(what, asked([*words, "--raw"], body)[0].split("\n")[1], second)
-    # The mark is under its byte, where the number before the bytes has seven digits too.
-    out, _, _ = asked(["read", "metadata", "0", "--raw"], i32(104856) + (i32(1) + string("") + i32(2)) * 104856 + b"\0")
-    check("a place over 1,000,000", out.split("\n")[1:5],
-          ["topics of a Metadata response, place 1,048,564 of 1,048,565 bytes", "  1048544  00 00 00 01 00 00 00 00 00 02 00 00 00 01 00 00", "  1048560  00 00 00 02 00", " " * 23 + "^^"])
+            got = told([*question, "--raw"], frame)[0].get("refusal", {})
+            check(f"{question}, {contents[-9:]}, in JSON", (got.get("number"), got.get("place"), got.get("letter")), (7, place, said))
 
 
 def usage():
@@ -451,11 +344,10 @@ def usage():
 def versions():
     """A version that no message has is asked for and refused, however far it is outside."""
     for version in ("40000", "65536", "-65536", str(2**63 - 1), str(-(2**63))):
-        for words, message in ((["read", "api-versions"], 2), (["whole"], 2), (["agree"], 2), (["read", "api-versions-request"], 1), (["read", "metadata"], 4),
-                               (["host", "1"], 4), (["read", "fetch"], 6)):
+        for words in (["read", "api-versions"], ["whole"], ["agree"], ["read", "api-versions-request"], ["read", "metadata"], ["host", "1"], ["read", "fetch"]):
             said, code = told([*words, version], bytes(8))
             check(f"{words} at {version}", (said.get("refusal"), code),
-                  ({"number": 1, "means": "there is no such version, or no such header", "place": 0, "need": 0, **named(message, -1, -1, None)}, 1))
+                  ({"number": 1, "means": "there is no such version, or no such header", "place": 0, "need": 0}, 1))
 
 
 def night():
@@ -465,7 +357,7 @@ def night():
 
 # The first question has what it needs built, and says so.
 asked(["read", "api-versions", "0"], bytes(6))
-for part in (stored, made, letters, sizes, large, forms, recognised, headers, bodies_in_frames, paths, usage, versions, night):
+for part in (stored, made, letters, sizes, large, forms, recognised, headers, bodies_in_frames, usage, versions, night):
     part()
 print(f"desk: {tried} checks, {len(wrong)} wrong")
 sys.exit(1 if wrong else 0)

@@ -4,16 +4,14 @@ use mathlib.Core.List.{List, [], ◌++◌, ◌∷◌}
 use mathlib.Core.Path.{◌∙◌, ◌≡◌, ap, refl, sym}
 use Prim.Native.Nat.{◌/◌, ◌<◌, ◌≤◌, ℕ}
 use native.Mathlib.Omega.{arith}
-use lib.Dec.{leb}
 use lib.IntN.{pos, ℤ}
 use lib.ListN.{length}
-use Rattle.layout.specs.Reading.{Refusal, Res, bad, because, naming, no_room, nowhere, ok}
+use Rattle.layout.specs.Reading.{Refusal, Res, bad, because, no_room, ok}
 use Rattle.layout.specs.Primitives.{compact, minus, never}
 use Rattle.layout.specs.Rows.{Basic, Shape, at, field, optional, standing, stands, tag_rows, text}
 use Rattle.layout.specs.Read.{by_place, read_basic}
 use Rattle.layout.specs.Tables.{Tables, absent_cells, all, arrays, cells, from, kind_in, kind_of, read_rows, row_width, span, width}
-use Rattle.layout.specs.Names.{name_at}
-use Rattle.layout.specs.Answers.{Answer, accepted, none_yet, prefix_read, read_answer, refused, shape, widths}
+use Rattle.layout.specs.Answers.{Answer, accepted, prefix_read, refused, shape, widths}
 use Rattle.layout.specs.Messages.ApiVersions as Api
 use Rattle.layout.specs.Messages.ApiVersions.{request_rows}
 use Rattle.primitives.specs.Answers.{of_refusal, version_of}
@@ -24,7 +22,6 @@ use Rattle.body_reading.specs.Walk.{Runs, on, walk}
 use Rattle.tagged_fields.specs.Read.{in_tables, in_tables_is}
 use Rattle.tagged_fields.specs.declared.reading.Walked.{Walked}
 use Rattle.api_versions_request.specs.Answers.{of_request}
-use Rattle.api_versions_request.specs.Shapes.{request_shape}
 use Rattle.api_versions_request.specs.Walks.{of_request_walked}
 use Rattle.api_versions_request.specs.declared.RequestBody.{RequestBody}
 use Rattle.api_versions_request.specs.declared.reading.RequestWalked.{RequestWalked}
@@ -39,8 +36,6 @@ use Rattle.body_reading.proofs.Close.{slices}
 use Rattle.body_reading.proofs.Reply.{answers_long}
 use Rattle.primitives.proofs.Versions as Versions
 use Rattle.primitives.proofs.Versions.{unknown}
-use Rattle.api_versions_request.proofs.Request.{is_shape}
-use Rattle.names.proofs.Replies.{read_because, read_named, read_short, read_took, size_fieldless, version_fieldless}
 
 abbrev start : List ℕ → List ℕ → State
 start l row = own row ∷ tab l 0 ∷ []
@@ -112,35 +107,28 @@ unfolding widths from kind_of kind_in arrays row_width width shape at stands sta
 tag_width = refl
 
 module _ (z : ℤ) (v : ℕ) (g : v ≡ version_of z) (s l : List ℕ) where
-  pub reply_unknown : 3 < v → (b : Refusal) → b ≡ because 1 0 → (c : Refusal) → c ≡ naming 1 nowhere nowhere b → (refused c, l ∷ []) ≡ prefix_read Api.request z (l ∷ []) s
+  pub reply_unknown : 3 < v → (c : Refusal) → c ≡ because 1 0 → (refused c, l ∷ []) ≡ prefix_read Api.request z (l ∷ []) s
   unfolding prefix_read
-  reply_unknown h b e c d = read_because false Api.request z (l ∷ []) (l ∷ []) s 1 0 version_fieldless c b e (unknown Api.request z v g h false s (l ∷ []) b e) d
+  reply_unknown h c e = unknown Api.request z v g h false s (l ∷ []) c e
 
   module _ (known : v ≤ 3) where
-    of_version : {x : Answer × Tables} → x ≡ read_answer false Api.request (pos v) (l ∷ []) s → x ≡ read_answer false Api.request z (l ∷ []) s
-    of_version e = e ∙ ap (λ (y : ℤ). read_answer false Api.request y (l ∷ []) s) (Versions.known Api.request z v g known (omega arith))
+    of_version : {x : Answer × Tables} → x ≡ prefix_read Api.request (pos v) (l ∷ []) s → x ≡ prefix_read Api.request z (l ∷ []) s
+    of_version e = e ∙ ap (λ (y : ℤ). prefix_read Api.request y (l ∷ []) s) (Versions.known Api.request z v g known (omega arith))
 
-    pub reply_long : 1048576 < length s → (b : Refusal) → b ≡ because 2 0 → (c : Refusal) → c ≡ naming 1 nowhere nowhere b → (refused c, l ∷ []) ≡ prefix_read Api.request z (l ∷ []) s
+    pub reply_long : 1048576 < length s → (c : Refusal) → c ≡ because 2 0 → (refused c, l ∷ []) ≡ prefix_read Api.request z (l ∷ []) s
     unfolding prefix_read
-    reply_long h b e c d = read_because false Api.request z (l ∷ []) (l ∷ []) s 2 0 size_fieldless c b e (of_version (answers_long Api.request false v s (l ∷ []) b e known h)) d
+    reply_long h c e = of_version (answers_long Api.request false v s (l ∷ []) c e known h)
 
     module _ (size : length s ≤ 1048576) (t₀ t₁ : List ℕ) (r : RequestWalked) (first : of_request_walked t₁ r ≡ on (walk false (shape Api.request v) 0 (own [] ∷ tab t₀ 0 ∷ [])) s 0) (empty : length t₁ ≡ 0) where
-      pub reply_no : (b : Code.Refusal) → r ≡ RequestWalked.Refused b → (c : Refusal) → c ≡ name_at 1 (request_shape (leb 3 v)) none_yet 0 s (of_refusal b) → (refused c, (t₁ ++ l) ∷ []) ≡ prefix_read Api.request z (l ∷ []) s
-      unfolding prefix_read
-      reply_no b e c d =
-          read_named Api.request z s v g (request_shape (leb 3 v)) (is_shape v) (omega arith) false (l ∷ []) ((t₁ ++ l) ∷ []) c (of_refusal b)
-          (of_version (one_no Api.request api_request is_slim refl 3 tag_width v known s l size t₀ t₁ empty (of_refusal b) (ap (of_request_walked t₁) (sym e) ∙ first))) d
+      pub reply_no : (c : Code.Refusal) → r ≡ RequestWalked.Refused c → (refused (of_refusal c), (t₁ ++ l) ∷ []) ≡ prefix_read Api.request z (l ∷ []) s
+      reply_no c e = of_version (one_no Api.request api_request is_slim refl 3 tag_width v known s l size t₀ t₁ empty (of_refusal c) (ap (of_request_walked t₁) (sym e) ∙ first))
 
       module _ (b : RequestBody) (q k : ℕ) (e : r ≡ RequestWalked.Took b q k) where
-        pub reply_needs : length (t₁ ++ l) / 3 < k / 3 → (a : Refusal) → a ≡ no_room (k / 3) → (c : Refusal) → c ≡ naming 1 nowhere nowhere a → (refused c, (t₁ ++ l) ∷ []) ≡ prefix_read Api.request z (l ∷ []) s
-        unfolding prefix_read
-        reply_needs h a i c d = read_short false Api.request z (l ∷ []) ((t₁ ++ l) ∷ []) s (k / 3) c a i (of_version (one_needs Api.request api_request is_slim refl 3 tag_width v known s l size t₀ t₁ empty (of_request b) q k (ap (of_request_walked t₁) (sym e) ∙ first) h a i)) d
+        pub reply_needs : length (t₁ ++ l) / 3 < k / 3 → (c : Refusal) → c ≡ no_room (k / 3) → (refused c, (t₁ ++ l) ∷ []) ≡ prefix_read Api.request z (l ∷ []) s
+        reply_needs h c i = of_version (one_needs Api.request api_request is_slim refl 3 tag_width v known s l size t₀ t₁ empty (of_request b) q k (ap (of_request_walked t₁) (sym e) ∙ first) h c i)
 
         pub reply_took : k / 3 ≤ length (t₁ ++ l) / 3 → (l₂ : List ℕ) (r₂ : RequestWalked) → of_request_walked l₂ r₂ ≡ on (walk false (shape Api.request v) 0 (own [] ∷ tab (t₁ ++ l) 0 ∷ [])) s 0 → (accepted (of_request b) q, l₂ ∷ []) ≡ prefix_read Api.request z (l ∷ []) s
-        unfolding prefix_read
-        reply_took h l₂ r₂ d =
-            read_took false Api.request z (l ∷ []) (l₂ ∷ []) s (of_request b) q
-            (of_version (one_took Api.request api_request is_slim refl 3 tag_width v known s l size t₀ t₁ empty (of_request b) q k (ap (of_request_walked t₁) (sym e) ∙ first) h l₂ (of_request_walked l₂ r₂) (λ x m i. holds r₂ x m i) d))
+        reply_took h l₂ r₂ d = of_version (one_took Api.request api_request is_slim refl 3 tag_width v known s l size t₀ t₁ empty (of_request b) q k (ap (of_request_walked t₁) (sym e) ∙ first) h l₂ (of_request_walked l₂ r₂) (λ x m i. holds r₂ x m i) d)
           where
             holds : (r₂ : RequestWalked) (x : State) (m : ℕ) → of_request_walked l₂ r₂ ≡ ok x m → slices x ≡ l₂ ∷ []
             holds (RequestWalked.Took c u j) x m i = let y : own (of_request c) ∷ tab l₂ j ∷ [] ≡ x = cc in ap slices (sym y)

@@ -9,7 +9,7 @@ use lib.Dec.{leb, lit<, lit≤}
 use lib.IntN.{ℤ}
 use lib.ListN.{length}
 use borrow.Rule.Slice.PartMut.{mid_of, put_mid}
-use Rattle.layout.specs.Answers.{Answer, shape, store_answer, write_alone}
+use Rattle.layout.specs.Answers.{Answer, shape, write_alone, write_answer}
 use Rattle.layout.specs.Messages.ApiVersions.{request, request_rows}
 use Rattle.primitives.proofs.Versions.{up_to}
 use Rattle.layout.specs.Primitives.{plain, sized_bytes}
@@ -35,13 +35,13 @@ use Rattle.api_versions_request.specs.Answers.{of_text}
 use Rattle.api_versions_request.specs.declared.Text.{Text}
 use Rattle.api_versions_request.specs.Shapes.{request_shape, text_field, texts_shape}
 
-pub is_shape : (v : ℕ) → v ≤ 3 → shape request v ≡ request_shape (leb 3 v)
+is_shape : (v : ℕ) → v ≤ 3 → shape request v ≡ request_shape (leb 3 v)
 unfolding shape at stands standing tag_rows request_rows
 is_shape = up_to 3 (λ v. shape request v ≡ request_shape (leb 3 v)) (refl, (refl, (refl, refl)))
 
 -- ---- a text that is unset, and one that is there
 
-abbrev pub text_of : List ℕ → Text → List ℕ
+abbrev text_of : List ℕ → Text → List ℕ
 text_of lent t = basic_of lent (text_field true) (of_text t)
 
 module _ (t : Text) where
@@ -116,7 +116,7 @@ module _ (lent : List ℕ) (name version : Text) (own : ℕ) (tags : List ℕ) w
   behind = (own ∷ []) ∷ tags ∷ []
 
   -- the texts, and the tables behind them
-  pub texts_value : value_of lent (texts_shape end) 0 rows ≡ ((text_of lent name, (text_of lent version, tt)), behind)
+  texts_value : value_of lent (texts_shape end) 0 rows ≡ ((text_of lent name, (text_of lent version, tt)), behind)
   unfolding value_of pop width
   texts_value = go name version
     where
@@ -176,7 +176,7 @@ module _ (lent : List ℕ) (name version : Text) (own : ℕ) (tags : List ℕ) w
       ∙ ap (λ (bs : List ℕ). write_alone 0 bs out) (sym (is_bytes (good_rows (length lent) name version own tags (refusal_none lent 1 (request_shape false) (request_shape f) rows i h)) f))
 
   -- the call's promise from that of a known version
-  pub request_written : (out : List ℕ) (v : ℕ) → v ≤ 3 → (z : ℤ) → v ≡ version_of z → (r : Answer × List ℕ) → r ≡ write_alone (refusal (leb 3 v)) (bytes_at lent (request_shape (leb 3 v)) 0 rows) out → r ≡ store_answer request z lent rows out
+  pub request_written : (out : List ℕ) (v : ℕ) → v ≤ 3 → (z : ℤ) → v ≡ version_of z → (r : Answer × List ℕ) → r ≡ write_alone (refusal (leb 3 v)) (bytes_at lent (request_shape (leb 3 v)) 0 rows) out → r ≡ write_answer request z lent rows out
   request_written out v h z e r w = called request z v e h (omega arith) lent rows out r _ _ w (rw (is_shape v h, is_shape 0 (lit≤ tt))) (λ g. rw (is_shape v h))
 
 -- ---- the walk

@@ -7,10 +7,10 @@ use lib.ListN.{get_or}
 use Rattle.layout.specs.Tables.{Tables}
 use Rattle.layout.specs.Answers.{Answer, accepted, refused, write_answer}
 use Rattle.layout.specs.Messages.ApiVersions as Api
-use Rattle.primitives.proofs.Unique.{unique}
-use Rattle.names.specs.Answers.{body_replied}
-use Rattle.names.specs.declared.BodyWritten.{BodyWritten}
-use Rattle.names.proofs.Unique.{body_written_unique, named_of}
+use Rattle.primitives_put.specs.Answers.{replied}
+use Rattle.primitives_put.specs.declared.Written.{Written}
+use Rattle.primitives_put.proofs.Unique.{written_unique}
+use Rattle.primitives.proofs.Unique.{refusal_of, unique}
 use Rattle.api_versions_request.specs.Answers.{of_request, of_request_reply, of_text}
 use Rattle.api_versions_request.specs.declared.Text.{Text}
 use Rattle.api_versions_request.specs.declared.RequestBody.{RequestBody}
@@ -35,7 +35,7 @@ request_back x = by_texts x.name x.version x.tags
 
 abbrev reply_of : Answer → RequestReply
 reply_of (accepted cs n) = RequestReply.Took (request_of cs) n
-reply_of (refused e) = RequestReply.Refused (named_of e)
+reply_of (refused e) = RequestReply.Refused (refusal_of e)
 
 abbrev pub said : RequestReply × List ℕ → Answer × Tables
 said x = (of_request_reply x.0, x.1 ∷ [])
@@ -48,7 +48,7 @@ pub request_unique : (o : Answer × Tables) (x y : RequestReply × List ℕ) →
 request_unique = unique said (λ (o : Answer × Tables). (reply_of o.0, get_or o.1 0 [])) said_back
 
 -- the call that writes: reply and output
-pub written_request_unique : (version : ℤ) (lent tags out : List ℕ) (x y : BodyWritten × List ℕ) (body : RequestBody) →
-    body_replied x.0 x.1 ≡ write_answer Api.request version lent (of_request body ∷ tags ∷ []) out →
-    body_replied y.0 y.1 ≡ write_answer Api.request version lent (of_request body ∷ tags ∷ []) out → x ≡ y
-written_request_unique version lent tags out x y body = body_written_unique (write_answer Api.request version lent (of_request body ∷ tags ∷ []) out) x y
+pub written_request_unique : (version : ℤ) (lent tags out : List ℕ) (x y : Written × List ℕ) (body : RequestBody) →
+    replied x.0 x.1 ≡ write_answer Api.request version lent (of_request body ∷ tags ∷ []) out →
+    replied y.0 y.1 ≡ write_answer Api.request version lent (of_request body ∷ tags ∷ []) out → x ≡ y
+written_request_unique version lent tags out x y body = written_unique (write_answer Api.request version lent (of_request body ∷ tags ∷ []) out) x y

@@ -1,9 +1,7 @@
 // The ApiVersions request, versions 0 to 3: what a client says of itself, read and written.
 // Numbers are cells, as in the tables: 64 bits, two's complement.
-use names::Named;
+use primitives::Refusal;
 
-mod naming;
-mod naming_written;
 mod reading;
 mod writing;
 
@@ -29,5 +27,5 @@ pub struct RequestBody {
 #[derive(Drop)]
 pub enum RequestReply {
     Took { body: RequestBody, used: usize },
-    Refused(Named),
+    Refused(Refusal),
 }

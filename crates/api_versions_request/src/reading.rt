@@ -7,10 +7,8 @@ ghost use Rattle.body_reading.specs.Walk.{on, walk};
 ghost use Rattle.api_versions_request.specs.Answers.{of_request_reply};
 ghost use Rattle.api_versions_request.specs.Walks.{of_request_walked};
 
-use crate::naming::with_name;
 use crate::{RequestBody, RequestReply, Text};
 use body_reading::places::compact_string_at;
-use names::{API_VERSIONS_REQUEST, without_field};
 use primitives::{MOST, NO_VERSION, Part, Refusal, TOO_LONG, at, no_room, version_of};
 use tagged_fields::reading::{Walked, tag_buffer_at};
 
@@ -92,10 +90,10 @@ pub fn read(msg: &[u8], version: i64, tags: &mut [u64]) -> RequestReply
 {
     let v = version_of(version);
     if 3 < v {
-        return RequestReply::Refused(without_field(at(NO_VERSION, 0), API_VERSIONS_REQUEST));
+        return RequestReply::Refused(at(NO_VERSION, 0));
     }
     if MOST < msg.len() {
-        return RequestReply::Refused(without_field(at(TOO_LONG, 0), API_VERSIONS_REQUEST));
+        return RequestReply::Refused(at(TOO_LONG, 0));
     }
     // Over no room the walk measures.
     match body(msg, v, &mut tags[..0]) {
@@ -105,14 +103,11 @@ pub fn read(msg: &[u8], version: i64, tags: &mut [u64]) -> RequestReply
             mark,
         } => {
             if tags.len() / 3 < mark / 3 {
-                return RequestReply::Refused(without_field(
-                    no_room(mark / 3),
-                    API_VERSIONS_REQUEST,
-                ));
+                return RequestReply::Refused(no_room(mark / 3));
             }
             body(msg, v, tags);
             RequestReply::Took { body: fields, used }
         }
-        RequestWalked::Refused(e) => RequestReply::Refused(with_name(e, msg, v)),
+        RequestWalked::Refused(e) => RequestReply::Refused(e),
     }
 }

@@ -11,20 +11,17 @@ ghost use Rattle.primitives_put.specs.Step.{Capped};
 ghost use Rattle.body_reading.specs.Tagged.{tag_shape};
 ghost use Rattle.body_writing.specs.Writes.{bytes_at, counted_bytes, refusal_of};
 ghost use Rattle.primitives_put.specs.Answers.{replied};
-ghost use Rattle.names.specs.Answers.{body_replied};
 ghost use Rattle.api_versions_request.specs.Answers.{of_request, of_text};
 ghost use Rattle.api_versions_request.specs.Shapes.{request_shape, text_field, texts_shape};
 
-use crate::naming_written::with_name;
 use crate::{RequestBody, Text};
 use body_writing::ranges::{is_inside, part};
-use names::{API_VERSIONS_REQUEST, BodyWritten, without_field};
 use primitives::{BAD_TABLES, MOST, NO_VERSION, NOT_TEXT, TOO_LONG, at, no_room, version_of};
 use primitives_put::{Form, Written};
 use tagged_fields::writing::tag_buffer;
 
 // The bytes of a text: none where it is unset.
-pub(crate) fn bytes_of(lent: &[u8], t: Text) -> &[u8]
+fn bytes_of(lent: &[u8], t: Text) -> &[u8]
     ensures { result.now ≡ basic_of lent.now (text_field true) (of_text t) }
 {
     match t {
@@ -162,23 +159,14 @@ fn written(
 }
 
 // `tags` are rows of tag, and start and length of its data in `lent`; the texts are parts of `lent` too.
-pub fn write(
-    out: &mut [u8],
-    version: i64,
-    lent: &[u8],
-    body: RequestBody,
-    tags: &[u64],
-) -> BodyWritten
-    ensures { body_replied result out.new ≡ write_answer Api.request version lent.now (of_request body ∷ tags.now ∷ []) out.old }
+pub fn write(out: &mut [u8], version: i64, lent: &[u8], body: RequestBody, tags: &[u64]) -> Written
+    ensures { replied result out.new ≡ write_answer Api.request version lent.now (of_request body ∷ tags.now ∷ []) out.old }
 {
     let v = version_of(version);
     if 3 < v {
-        return BodyWritten::Refused(without_field(at(NO_VERSION, 0), API_VERSIONS_REQUEST));
+        return Written::Refused(at(NO_VERSION, 0));
     }
     let name = body.name;
     let software = body.version;
-    match written(out, 3 <= v, lent, name, software, body.tags, tags) {
-        Written::Wrote(n) => BodyWritten::Wrote(n),
-        Written::Refused(e) => BodyWritten::Refused(with_name(e, 3 <= v, lent, name, software)),
-    }
+    written(out, 3 <= v, lent, name, software, body.tags, tags)
 }

@@ -7,14 +7,14 @@ use native.Mathlib.Omega.{arith}
 use lib.Dec.{eqb}
 use lib.ListN.{drop, get_or, length, length-drop, take}
 use lib.Seq.{drop-drop, get_or-drop, length-take-le, take_all, take-take}
-use Rattle.layout.specs.Reading.{Reader, Refusal, bad, ok}
-use Rattle.layout.specs.Primitives.{be, cell, cell_of, signed, w16}
-use Rattle.layout.specs.Rows.{Shape, Value, end, field, number}
+use Rattle.layout.specs.Reading.{Reader, Refusal, Res, bad, ok}
+use Rattle.layout.specs.Primitives.{be, cell, cell_of, minus, signed, w16}
+use Rattle.layout.specs.Rows.{Shape, Value, end, field, number, standing, stands}
 use Rattle.layout.specs.Read.{by_place, read, read_basic}
-use Rattle.layout.specs.Tables.{Span, cells}
+use Rattle.layout.specs.Tables.{Span, cells, read_rows}
 use Rattle.primitives.specs.Answers.{of_refusal}
 use Rattle.primitives.specs.declared.Refusal as Code
-use Rattle.body_reading.specs.Store.{Tab, add, own, step, store, tab}
+use Rattle.body_reading.specs.Store.{State, Tab, add, own, step, store, tab}
 use Rattle.body_reading.specs.Tagged.{tags_if}
 use Rattle.body_reading.specs.Walk.{Places, Runs, on, walk}
 use Rattle.tagged_fields.specs.Read as Tags
@@ -24,6 +24,7 @@ use Rattle.api_versions_response.specs.ItemWalks.{Bare, IsBare, in_tables, of_ke
 use Rattle.api_versions_response.specs.declared.items.Key.{Key}
 use Rattle.api_versions_response.specs.declared.items.Rows.{Rows}
 use Rattle.layout.proofs.Contents.{row_cells}
+use Rattle.body_reading.proofs.Arrays.{row_end}
 use Rattle.body_reading.proofs.Front.{front_no, front_took, reads_end, reads_no, reads_took}
 use Rattle.body_reading.proofs.Stores.{four_out, store_append}
 use Rattle.layout.proofs.Local.{not_ok}
@@ -157,11 +158,11 @@ is_bare_cut f s p e h =
     let a : get_or (take (length s - p) (drop p s)) 6 0 ≡ get_or s (p + 6) 0 = ap (λ (t : List ℕ). get_or t 6 0) (take_all (length s - p) (drop p s) (omega (arith, length-drop p s))) ∙ get_or-drop p s 6 0 in
     subst (λ (n : ℕ). IsBare f s p (eqb n 0)) (sym a) (is_bare f s p e h)
 
-pub never : {X : Type 0} → false ≡ true → X
-never r = let z : ◌≡◌ {A = ℕ} 0 1 = cc in absurd (omega arith)
-
 pub not_bare : (f : Bool) (s : List ℕ) (p : ℕ) → IsBare f s p false
 not_bare f s p = record { flexible = λ r. never r; whole = λ r. never r; empty = λ r. never r }
+  where
+    never : {X : Type 0} → false ≡ true → X
+    never r = let z : ◌≡◌ {A = ℕ} 0 1 = cc in absurd (omega arith)
 
 pub bare_item : (f : Bool) (s : List ℕ) (p : ℕ) (is : List ℕ) (i : ℕ) (ts : List ℕ) (t : ℕ) (r : Bool) → IsBare f s p r → r ≡ true → (is' : List ℕ) (m : ℕ) → Bare s p is i is' m →
     Runs (λ e. walk e.0 (key_shape f) 1) s p (in_tables is i ts t) (rows_is is' ts (Rows.Took (p + 7) m t))

@@ -9,18 +9,17 @@ use lib.Dec.{leb, ltb}
 use lib.IntN.{pos, ℤ}
 use lib.ListN.{length}
 use borrow.Author.Tests.{ltb-false}
-use Rattle.layout.specs.Reading.{Refusal, Res, because, naming, no_room, nowhere, ok}
+use Rattle.layout.specs.Reading.{Refusal, Res, because, no_room, ok}
 use Rattle.layout.specs.Rows.{Shape, at, standing, stands, tag_rows}
 use Rattle.layout.specs.Tables.{Tables, all, arrays, from, kind_in, kind_of, row_width, width}
-use Rattle.layout.specs.Answers.{Answer, accepted, body_read, none_yet, refused, shape, widths}
+use Rattle.layout.specs.Answers.{Answer, accepted, read_answer, refused, shape, widths}
 use Rattle.layout.specs.Messages.ApiVersions as Api
-use Rattle.layout.specs.Names.{name_at}
 use Rattle.layout.proofs.Local.{not_ok}
 use Rattle.layout.proofs.Proper.{api_response}
 use Rattle.layout.proofs.Tests.{le-false, le-true, of_lt}
 use Rattle.primitives.specs.Answers.{of_refusal, version_of}
 use Rattle.primitives.specs.declared.Refusal as Code
-use Rattle.primitives.proofs.Versions.{known, unknown, up_to}
+use Rattle.primitives.proofs.Versions.{known, up_to}
 use Rattle.body_reading.specs.Meter.{short}
 use Rattle.body_reading.specs.Store.{State, own, tab}
 use Rattle.body_reading.specs.Tagged.{tags_if}
@@ -28,7 +27,6 @@ use Rattle.body_reading.specs.Walk.{on, walk}
 use Rattle.body_reading.proofs.Bound.{lean, slim, taken}
 use Rattle.body_reading.proofs.Close.{slices}
 use Rattle.layout.proofs.Chunks.{nil}
-use Rattle.names.proofs.Replies.{left_fieldless, read_because, read_named, read_short, read_took, size_fieldless, version_fieldless}
 use Rattle.body_reading.proofs.Reply.{answers_fits, answers_left, answers_long, answers_needs, answers_no}
 use Rattle.api_versions_response.specs.Answers.{of_response}
 use Rattle.api_versions_response.specs.ItemShapes.{key_shape}
@@ -51,11 +49,6 @@ row_widths = refl
 pub shape_is : (v : ℕ) → v ≤ 3 → shape Api.response v ≡ response_shape (leb 1 v) (leb 3 v)
 unfolding shape at stands standing tag_rows Api.key_rows Api.response_rows
 shape_is = up_to 3 (λ v. shape Api.response v ≡ response_shape (leb 1 v) (leb 3 v)) (refl, (refl, (refl, refl)))
-
--- the same, as readers name it
-pub body_is : (v : ℕ) → v ≤ 3 → body_shape (leb 1 v) (leb 3 v) ≡ shape Api.response v
-unfolding body_shape tail_shape key_shape tags_if
-body_is v h = sym (shape_is v h)
 
 module _ (i t a b : ℕ) where
   short_items : a / 4 < i / 4 → short (widths Api.response) (i ∷ t ∷ []) (a ∷ b ∷ []) ≡ some (i / 4)
@@ -101,56 +94,54 @@ module _ (w : Bool) (v : ℕ) (known : v ≤ 3) (s is ts : List ℕ) (size : len
   walked js us = on (walk w (body_shape (leb 1 v) (leb 3 v)) 0 (own [] ∷ tab js 0 ∷ tab us 0 ∷ [])) s 0
 
   as_shape : (js us : List ℕ) → walked js us ≡ on (walk w (shape Api.response v) 0 (own [] ∷ tab js 0 ∷ tab us 0 ∷ [])) s 0
-  as_shape js us = ap (λ (l : Shape). on (walk w l 0 (own [] ∷ tab js 0 ∷ tab us 0 ∷ [])) s 0) (body_is v known)
+  unfolding body_shape tail_shape key_shape tags_if
+  as_shape js us = ap (λ (l : Shape). on (walk w l 0 (own [] ∷ tab js 0 ∷ tab us 0 ∷ [])) s 0) (sym (shape_is v known))
 
   abbrev Reply : Answer → List ℕ → List ℕ → Type 0
-  Reply a js us = (a, js ∷ us ∷ []) ≡ body_read w Api.response (pos v) (is ∷ ts ∷ []) s
+  Reply a js us = (a, js ∷ us ∷ []) ≡ read_answer w Api.response (pos v) (is ∷ ts ∷ []) s
 
   module _ (js₀ js us₀ us : List ℕ) (r : Measured) (first : of_measured js us r ≡ walked js₀ us₀) (no_items : length js ≡ 0) (no_tags : length us ≡ 0) where
     -- over no room nothing is altered
     kept : (a : Answer) → Reply a is ts → Reply a (js ++ is) (us ++ ts)
     kept a e = (λ i. (a, (nil js no_items i ++ is) ∷ (nil us no_tags i ++ ts) ∷ [])) ∙ e
 
-    pub reply_no : (e : Code.Refusal) → r ≡ Measured.Refused e → (c : Refusal) → c ≡ name_at 2 (body_shape (leb 1 v) (leb 3 v)) none_yet 0 s (of_refusal e) → Reply (refused c) (js ++ is) (us ++ ts)
-    reply_no e d c g =
-        kept _
-        (read_named Api.response (pos v) s v refl (body_shape (leb 1 v) (leb 3 v)) (λ k. sym (body_is v k)) (omega arith) w (is ∷ ts ∷ []) (is ∷ ts ∷ []) c (of_refusal e)
-        (answers_no Api.response api_response is_slim w v known s size (is ∷ ts ∷ []) (js₀ ∷ us₀ ∷ []) refl refl (of_refusal e) (ap (of_measured js us) (sym d) ∙ first ∙ as_shape js₀ us₀)) g)
+    pub reply_no : (c : Code.Refusal) → r ≡ Measured.Refused c → Reply (refused (of_refusal c)) (js ++ is) (us ++ ts)
+    reply_no c e =
+        kept _ (answers_no Api.response api_response is_slim w v known s size (is ∷ ts ∷ []) (js₀ ∷ us₀ ∷ []) refl refl (of_refusal c) (ap (of_measured js us) (sym e) ∙ first ∙ as_shape js₀ us₀))
 
     module _ (x : ResponseBody) (q i t : ℕ) (e : r ≡ Measured.Took x q i t) where
       measured : ok (own (of_response x) ∷ tab js i ∷ tab us t ∷ []) q ≡ on (walk w (shape Api.response v) 0 (own [] ∷ tab js₀ 0 ∷ tab us₀ 0 ∷ [])) s 0
       measured = ap (of_measured js us) (sym e) ∙ first ∙ as_shape js₀ us₀
 
-      pub reply_left : is_left w q (length s) ≡ true → (b : Refusal) → b ≡ because 9 q → (c : Refusal) → c ≡ naming 2 nowhere nowhere b → Reply (refused c) (js ++ is) (us ++ ts)
-      reply_left l b d c g =
+      pub reply_left : is_left w q (length s) ≡ true → (c : Refusal) → c ≡ because 9 q → Reply (refused c) (js ++ is) (us ++ ts)
+      reply_left l c d =
           let a = some_left w q (length s) l in
-          kept _ (read_because w Api.response (pos v) (is ∷ ts ∷ []) (is ∷ ts ∷ []) s 9 q left_fieldless c b d (ap (λ (y : Refusal). (refused y, is ∷ ts ∷ [])) d ∙ answers_left Api.response api_response is_slim w v known s size (is ∷ ts ∷ []) (js₀ ∷ us₀ ∷ []) refl refl (of_response x) (tab js i ∷ tab us t ∷ []) q measured a.0 a.1) g)
+          kept _ (ap (λ (y : Refusal). (refused y, is ∷ ts ∷ [])) d ∙ answers_left Api.response api_response is_slim w v known s size (is ∷ ts ∷ []) (js₀ ∷ us₀ ∷ []) refl refl (of_response x) (tab js i ∷ tab us t ∷ []) q measured a.0 a.1)
 
       module _ (l : is_left w q (length s) ≡ false) where
-        lacks_room : (k : ℕ) → short (widths Api.response) (i ∷ t ∷ []) (length is ∷ length ts ∷ []) ≡ some k → (b : Refusal) → b ≡ no_room k → (c : Refusal) → c ≡ naming 2 nowhere nowhere b → Reply (refused c) (js ++ is) (us ++ ts)
-        lacks_room k h b d c g =
-            kept _ (read_short w Api.response (pos v) (is ∷ ts ∷ []) (is ∷ ts ∷ []) s k c b d (ap (λ (y : Refusal). (refused y, is ∷ ts ∷ [])) d ∙ answers_needs Api.response api_response is_slim w v known s size (is ∷ ts ∷ []) (js₀ ∷ us₀ ∷ []) refl refl (of_response x) (tab js i ∷ tab us t ∷ []) q measured (none_left w q (length s) l) k h) g)
+        lacks_room : (k : ℕ) → short (widths Api.response) (i ∷ t ∷ []) (length is ∷ length ts ∷ []) ≡ some k → (c : Refusal) → c ≡ no_room k → Reply (refused c) (js ++ is) (us ++ ts)
+        lacks_room k h c d =
+            kept _ (ap (λ (y : Refusal). (refused y, is ∷ ts ∷ [])) d ∙ answers_needs Api.response api_response is_slim w v known s size (is ∷ ts ∷ []) (js₀ ∷ us₀ ∷ []) refl refl (of_response x) (tab js i ∷ tab us t ∷ []) q measured (none_left w q (length s) l) k h)
 
         -- the lengths are those of the lent tables
         long : (ks us : List ℕ) → length ks ≡ 0 → length (ks ++ us) ≡ length us
         long ks us z = ap (λ (y : List ℕ). length (y ++ us)) (nil ks z)
 
-        pub reply_items : length (js ++ is) / 4 < i / 4 → (b : Refusal) → b ≡ no_room (i / 4) → (c : Refusal) → c ≡ naming 2 nowhere nowhere b → Reply (refused c) (js ++ is) (us ++ ts)
-        reply_items h = lacks_room (i / 4) (short_items i t (length is) (length ts) (subst (λ (n : ℕ). n / 4 < i / 4) (long js is no_items) h))
+        pub reply_items : length (js ++ is) / 4 < i / 4 → (c : Refusal) → c ≡ no_room (i / 4) → Reply (refused c) (js ++ is) (us ++ ts)
+        reply_items h c d = lacks_room (i / 4) (short_items i t (length is) (length ts) (subst (λ (n : ℕ). n / 4 < i / 4) (long js is no_items) h)) c d
 
         module _ (h : i / 4 ≤ length (js ++ is) / 4) where
           items_fit : i / 4 ≤ length is / 4
           items_fit = subst (λ (n : ℕ). i / 4 ≤ n / 4) (long js is no_items) h
 
-          pub reply_tags : length (us ++ ts) / 3 < t / 3 → (b : Refusal) → b ≡ no_room (t / 3) → (c : Refusal) → c ≡ naming 2 nowhere nowhere b → Reply (refused c) (js ++ is) (us ++ ts)
-          reply_tags k = lacks_room (t / 3) (short_tags i t (length is) (length ts) items_fit (subst (λ (n : ℕ). n / 3 < t / 3) (long us ts no_tags) k))
+          pub reply_tags : length (us ++ ts) / 3 < t / 3 → (c : Refusal) → c ≡ no_room (t / 3) → Reply (refused c) (js ++ is) (us ++ ts)
+          reply_tags k c d = lacks_room (t / 3) (short_tags i t (length is) (length ts) items_fit (subst (λ (n : ℕ). n / 3 < t / 3) (long us ts no_tags) k)) c d
 
           pub reply_took : t / 3 ≤ length (us ++ ts) / 3 → (js₂ us₂ : List ℕ) (r₂ : Measured) → of_measured js₂ us₂ r₂ ≡ walked (js ++ is) (us ++ ts) → Reply (accepted (of_response x) q) js₂ us₂
           reply_took k js₂ us₂ r₂ d =
-              read_took w Api.response (pos v) (is ∷ ts ∷ []) (js₂ ∷ us₂ ∷ []) s (of_response x) q
-              (answers_fits Api.response api_response is_slim w v known s size (is ∷ ts ∷ []) (js₀ ∷ us₀ ∷ []) refl refl (of_response x) (tab js i ∷ tab us t ∷ []) q measured (none_left w q (length s) l)
+              answers_fits Api.response api_response is_slim w v known s size (is ∷ ts ∷ []) (js₀ ∷ us₀ ∷ []) refl refl (of_response x) (tab js i ∷ tab us t ∷ []) q measured (none_left w q (length s) l)
               (short_none i t (length is) (length ts) items_fit (subst (λ (n : ℕ). t / 3 ≤ n / 3) (long us ts no_tags) k)) (of_measured js₂ us₂ r₂)
-              (d ∙ (λ j. walked (nil js no_items j ++ is) (nil us no_tags j ++ ts)) ∙ as_shape is ts) (js₂ ∷ us₂ ∷ []) (λ y n j. holds r₂ y n j))
+              (d ∙ (λ j. walked (nil js no_items j ++ is) (nil us no_tags j ++ ts)) ∙ as_shape is ts) (js₂ ∷ us₂ ∷ []) (λ y n j. holds r₂ y n j)
             where
               holds : (r₂ : Measured) (y : State) (n : ℕ) → of_measured js₂ us₂ r₂ ≡ ok y n → slices y ≡ js₂ ∷ us₂ ∷ []
               holds (Measured.Took b u j m) y n g = let z : own (of_response b) ∷ tab js₂ j ∷ tab us₂ m ∷ [] ≡ y = cc in ap slices (sym z)
@@ -162,11 +153,8 @@ module _ (w : Bool) (z : ℤ) (v : ℕ) (e : v ≡ version_of z) (h : v ≤ 3) (
   at_version_lem : pos v ≡ z
   at_version_lem = known Api.response z v e h (omega arith)
 
-  pub reply_at : (o : Answer × Tables) → o ≡ body_read w Api.response (pos v) olds s → o ≡ body_read w Api.response z olds s
-  reply_at o d = d ∙ ap (λ (y : ℤ). body_read w Api.response y olds s) at_version_lem
+  pub reply_long : 1048576 < length s → (c : Refusal) → c ≡ because 2 0 → (refused c, olds) ≡ read_answer w Api.response z olds s
+  reply_long l c d = answers_long Api.response w v s olds c d h l ∙ ap (λ (y : ℤ). read_answer w Api.response y olds s) at_version_lem
 
-  pub reply_long : 1048576 < length s → (b : Refusal) → b ≡ because 2 0 → (c : Refusal) → c ≡ naming 2 nowhere nowhere b → (refused c, olds) ≡ body_read w Api.response z olds s
-  reply_long l b d c g = reply_at _ (read_because w Api.response (pos v) olds olds s 2 0 size_fieldless c b d (answers_long Api.response w v s olds b d h l) g)
-
-pub reply_unknown : (w : Bool) (z : ℤ) (v : ℕ) → v ≡ version_of z → 3 < v → (s : List ℕ) (olds : Tables) (b : Refusal) → b ≡ because 1 0 → (c : Refusal) → c ≡ naming 2 nowhere nowhere b → (refused c, olds) ≡ body_read w Api.response z olds s
-reply_unknown w z v e h s olds b d c g = read_because w Api.response z olds olds s 1 0 version_fieldless c b d (unknown Api.response z v e h w s olds b d) g
+  pub reply_at : (o : Answer × Tables) → o ≡ read_answer w Api.response (pos v) olds s → o ≡ read_answer w Api.response z olds s
+  reply_at o d = d ∙ ap (λ (y : ℤ). read_answer w Api.response y olds s) at_version_lem

@@ -5,8 +5,7 @@ use Prim.Native.Nat.{ℕ}
 use lib.ListN.{get_or}
 use Rattle.layout.specs.Tables.{Tables}
 use Rattle.layout.specs.Answers.{Answer, accepted, refused}
-use Rattle.primitives.proofs.Unique.{unique}
-use Rattle.names.proofs.Unique.{named_of}
+use Rattle.primitives.proofs.Unique.{refusal_of, unique}
 use Rattle.body_reading.proofs.Unique.{versioned_of}
 use Rattle.body_reading.specs.Cells.{versioned_cells}
 use Rattle.body_reading.specs.declared.versioned.Versioned.{Versioned}
@@ -23,7 +22,7 @@ body_back_lem e k (Versioned.Present n) g = refl
 
 abbrev reply_of : Answer → ResponseReply
 reply_of (accepted cs n) = ResponseReply.Took (body_of cs) n
-reply_of (refused e) = ResponseReply.Refused (named_of e)
+reply_of (refused e) = ResponseReply.Refused (refusal_of e)
 
 -- a reply, and the tables of items and of tags behind it
 abbrev pub Told : Type 0

@@ -5,14 +5,14 @@ use Prim.Native.Nat.{ℕ}
 use lib.IntN.{ℤ}
 use Rattle.layout.specs.Answers.{write_answer}
 use Rattle.layout.specs.Messages.ApiVersions as Api
-use Rattle.names.specs.Answers.{body_replied}
-use Rattle.names.specs.declared.BodyWritten.{BodyWritten}
-use Rattle.names.proofs.Unique.{body_written_unique}
+use Rattle.primitives_put.specs.Answers.{replied}
+use Rattle.primitives_put.specs.declared.Written.{Written}
+use Rattle.primitives_put.proofs.Unique.{written_unique}
 use Rattle.api_versions_response.specs.Answers.{of_response}
 use Rattle.api_versions_response.specs.declared.ResponseBody.{ResponseBody}
 
-module _ (version : ℤ) (lent tags out : List ℕ) (x y : BodyWritten × List ℕ) where
+module _ (version : ℤ) (lent tags out : List ℕ) (x y : Written × List ℕ) where
   pub response_unique : (body : ResponseBody) (items : List ℕ) →
-      body_replied x.0 x.1 ≡ write_answer Api.response version lent (of_response body ∷ items ∷ tags ∷ []) out →
-      body_replied y.0 y.1 ≡ write_answer Api.response version lent (of_response body ∷ items ∷ tags ∷ []) out → x ≡ y
-  response_unique body items h g = body_written_unique (write_answer Api.response version lent (of_response body ∷ items ∷ tags ∷ []) out) x y h g
+      replied x.0 x.1 ≡ write_answer Api.response version lent (of_response body ∷ items ∷ tags ∷ []) out →
+      replied y.0 y.1 ≡ write_answer Api.response version lent (of_response body ∷ items ∷ tags ∷ []) out → x ≡ y
+  response_unique body items h g = written_unique (write_answer Api.response version lent (of_response body ∷ items ∷ tags ∷ []) out) x y h g

@@ -9,7 +9,7 @@ use lib.IntN.{ℤ}
 use lib.ListN.{drop, get_or, length, length-drop, take}
 use lib.Seq.{get_or-take, take_all}
 use borrow.Rule.Slice.PartMut.{mid_of, put_mid}
-use Rattle.layout.specs.Answers.{Answer, store_answer, write_alone}
+use Rattle.layout.specs.Answers.{Answer, write_alone, write_answer}
 use Rattle.layout.specs.Messages.ApiVersions.{response}
 use Rattle.layout.specs.Primitives.{Size, bytes, compact, fixed, holds, keeps, length_bytes, minus, never, plain, w16, w32}
 use Rattle.layout.specs.Rows as Rows
@@ -65,7 +65,7 @@ module _ (lent : List ℕ) (f : Bool) (c : ℕ) (cs items tags : List ℕ) where
       ∙ ap (λ (xs : List (Value (List ℕ) (item_shape f))). length_bytes (Rows.items f) (count c) ++ each (write (item_shape f)) xs) (own_apart 4 (item_cells f) (value_of lent (item_shape f) 1) _ (item_value lent f) (count c) cs [] items tags)
 
   -- the tables behind them
-  pub array_left : (value_of lent (array (Rows.items f) 1 (item_shape f) end) 0 st).1 ≡ cs ∷ drop (count c * 4) items ∷ drop (cells_of f (chunks (count c) 4 items)) tags ∷ []
+  array_left : (value_of lent (array (Rows.items f) 1 (item_shape f) end) 0 st).1 ≡ cs ∷ drop (count c * 4) items ∷ drop (cells_of f (chunks (count c) 4 items)) tags ∷ []
   unfolding value_of pop items_of
   array_left = go f
     where
@@ -112,7 +112,7 @@ module _ (lent : List ℕ) (k m c : ℕ) (items table : List ℕ) where
 -- ---- what stands behind the error
 
 -- no number of items has a fault of its own
-pub items_fit : (f : Bool) (n : ℕ) → too_long (Rows.items f) n ≡ 0
+items_fit : (f : Bool) (n : ℕ) → too_long (Rows.items f) n ≡ 0
 unfolding too_long
 items_fit true n = refl
 items_fit false n = refl
@@ -303,7 +303,7 @@ module _ (lent : List ℕ) (error c own : ℕ) (items tags out : List ℕ) (l : 
       go (Versioned.Present n) = told_so 2 n n refl
 
   pub response_written : (q : Versioned) (z : ℤ) → v ≡ version_of z → {n : ℕ} → n ≡ given 0 q → (r : Answer × List ℕ) →
-      r ≡ write_alone (refusal (2 ∷ n ∷ [])) (bytes_at lent (response_shape (leb 1 v) (leb 3 v)) 0 ((error ∷ length items / 4 ∷ 2 ∷ n ∷ own ∷ []) ∷ items ∷ tags ∷ [])) out → r ≡ store_answer response z lent (rows (versioned_cells q)) out
+      r ≡ write_alone (refusal (2 ∷ n ∷ [])) (bytes_at lent (response_shape (leb 1 v) (leb 3 v)) 0 ((error ∷ length items / 4 ∷ 2 ∷ n ∷ own ∷ []) ∷ items ∷ tags ∷ [])) out → r ≡ write_answer response z lent (rows (versioned_cells q)) out
   response_written q z e j r w =
       called response z v e k (omega arith) lent (rows (versioned_cells q)) out r _ _ w
       (rw (shape_is v k, shape_is 0 (lit≤ tt)) (same_refusal q ∙ ap (λ (n : ℕ). refusal (2 ∷ n ∷ [])) (sym j)))

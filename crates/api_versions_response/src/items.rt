@@ -3,6 +3,7 @@ ghost use Rattle.std.specs.Prelude.{◌≡◌, false, ◌+◌, ◌≤◌, length
 ghost use Rattle.layout.specs.Reading.{loop};
 ghost use Rattle.layout.specs.Read.{by_place, read};
 ghost use Rattle.body_reading.specs.Walk.{Runs, on, walk};
+ghost use Rattle.tagged_fields.specs.Read as Tags;
 ghost use Rattle.api_versions_response.specs.ItemShapes.{key_front, key_shape};
 ghost use Rattle.api_versions_response.specs.ItemWalks.{Bare, IsBare, in_tables, of_key, rows_is};
 
@@ -64,7 +65,7 @@ fn key_at(s: &[u8], p: usize) -> Key
 }
 
 // Most items have no tags: their bytes are there, and the last is 0.
-pub(crate) fn is_bare(s: &[u8], p: usize, flexible: bool) -> bool
+fn is_bare(s: &[u8], p: usize, flexible: bool) -> bool
     ensures { IsBare flexible s.now p result }
 {
     if flexible {

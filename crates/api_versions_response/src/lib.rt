@@ -1,12 +1,10 @@
 // The ApiVersions response, versions 0 to 3: what a broker offers, read, read whole, and written; what was written comes back.
 // Numbers are cells, as in the tables: 64 bits, two's complement.
 use body_reading::versioned::Versioned;
-use names::Named;
+use primitives::Refusal;
 
 mod items;
 mod judge;
-mod naming;
-mod naming_written;
 mod reading;
 mod writing;
 
@@ -26,5 +24,5 @@ pub struct ResponseBody {
 #[derive(Drop)]
 pub enum ResponseReply {
     Took { body: ResponseBody, used: usize },
-    Refused(Named),
+    Refused(Refusal),
 }

@@ -1,6 +1,6 @@
 // The response, read: items (key, minimum, maximum, number of tags) go to one lent table, all tags (tag, start, length) to another, the items' first.
 ghost use Rattle.std.specs.Prelude.{◌≡◌, [], ◌∷◌, false, true, ◌≤◌, pos, length};
-ghost use Rattle.layout.specs.Answers.{body_read, prefix_read, whole_read};
+ghost use Rattle.layout.specs.Answers.{prefix_read, read_answer, whole_read};
 ghost use Rattle.layout.specs.Messages.ApiVersions as Api;
 ghost use Rattle.body_reading.specs.Store.{own, tab};
 ghost use Rattle.body_reading.specs.Walk.{Runs, on, walk};
@@ -9,11 +9,9 @@ ghost use Rattle.api_versions_response.specs.Shapes.{body_shape, tail_shape};
 ghost use Rattle.api_versions_response.specs.Walks.{behind_items, finish, is_left, of_measured, of_tail};
 
 use crate::items::{Rows, items_in};
-use crate::naming::with_name;
 use crate::{ResponseBody, ResponseReply};
 use body_reading::places::{int16_at, items_at};
 use body_reading::versioned::{Versioned, VersionedAt, int32_if};
-use names::{API_VERSIONS_RESPONSE, without_field};
 use primitives::{
     BYTES_LEFT, MOST, NO_VERSION, Number, Refusal, TOO_LONG, at, no_room, version_of,
 };
@@ -153,7 +151,7 @@ fn is_left(whole: bool, next: usize, size: usize) -> bool
 // Once version and size are judged: over no room the walk measures; then what is left, then room in table order; then it fills.
 fn judged(msg: &[u8], v: u64, whole: bool, items: &mut [u64], tags: &mut [u64]) -> ResponseReply
     requires { (v ≤ 3) × (length msg.now ≤ 1048576) }
-    ensures { (of_response_reply result, items.new ∷ tags.new ∷ []) ≡ body_read whole Api.response (pos v) (items.old ∷ tags.old ∷ []) msg.now }
+    ensures { (of_response_reply result, items.new ∷ tags.new ∷ []) ≡ read_answer whole Api.response (pos v) (items.old ∷ tags.old ∷ []) msg.now }
 {
     match body_at(msg, 1 <= v, 3 <= v, whole, &mut items[..0], &mut tags[..0]) {
         Measured::Took {
@@ -163,27 +161,18 @@ fn judged(msg: &[u8], v: u64, whole: bool, items: &mut [u64], tags: &mut [u64]) 
             tags: tag,
         } => {
             if is_left(whole, next, msg.len()) {
-                return ResponseReply::Refused(without_field(
-                    at(BYTES_LEFT, next),
-                    API_VERSIONS_RESPONSE,
-                ));
+                return ResponseReply::Refused(at(BYTES_LEFT, next));
             }
             if items.len() / 4 < row / 4 {
-                return ResponseReply::Refused(without_field(
-                    no_room(row / 4),
-                    API_VERSIONS_RESPONSE,
-                ));
+                return ResponseReply::Refused(no_room(row / 4));
             }
             if tags.len() / 3 < tag / 3 {
-                return ResponseReply::Refused(without_field(
-                    no_room(tag / 3),
-                    API_VERSIONS_RESPONSE,
-                ));
+                return ResponseReply::Refused(no_room(tag / 3));
             }
             body_at(msg, 1 <= v, 3 <= v, whole, items, tags);
             ResponseReply::Took { body, used: next }
         }
-        Measured::Refused(e) => ResponseReply::Refused(with_name(e, msg, v)),
+        Measured::Refused(e) => ResponseReply::Refused(e),
     }
 }
 
@@ -194,14 +183,14 @@ fn answered(
     items: &mut [u64],
     tags: &mut [u64],
 ) -> ResponseReply
-    ensures { (of_response_reply result, items.new ∷ tags.new ∷ []) ≡ body_read whole Api.response version (items.old ∷ tags.old ∷ []) msg.now }
+    ensures { (of_response_reply result, items.new ∷ tags.new ∷ []) ≡ read_answer whole Api.response version (items.old ∷ tags.old ∷ []) msg.now }
 {
     let v = version_of(version);
     if 3 < v {
-        return ResponseReply::Refused(without_field(at(NO_VERSION, 0), API_VERSIONS_RESPONSE));
+        return ResponseReply::Refused(at(NO_VERSION, 0));
     }
     if MOST < msg.len() {
-        return ResponseReply::Refused(without_field(at(TOO_LONG, 0), API_VERSIONS_RESPONSE));
+        return ResponseReply::Refused(at(TOO_LONG, 0));
     }
     judged(msg, v, whole, items, tags)
 }

@@ -12,7 +12,6 @@ ghost use Rattle.body_reading.specs.Tagged.{tag_shape, tags_shape};
 ghost use Rattle.body_writing.specs.Writes.{bytes_at, counted_bytes, items_bytes, refusal_of, row_bytes};
 ghost use Rattle.primitives_put.specs.Put.{size_of};
 ghost use Rattle.primitives_put.specs.Answers.{replied};
-ghost use Rattle.names.specs.Answers.{body_replied};
 ghost use Rattle.body_writing.specs.Asked.{told};
 ghost use Rattle.api_versions_response.specs.Answers.{of_response};
 ghost use Rattle.api_versions_response.specs.Shapes.{item_shape, response_shape, throttle_shape};
@@ -20,10 +19,8 @@ ghost use Rattle.api_versions_response.specs.ItemShapes.{key_front};
 
 use crate::ResponseBody;
 use crate::judge::refusal;
-use crate::naming_written::with_name;
 use body_reading::cells::given;
 use body_writing::ranges::rows_told;
-use names::{API_VERSIONS_RESPONSE, BodyWritten, without_field};
 use primitives::{MOST, NO_VERSION, TOO_LONG, at, no_room, version_of};
 use primitives_put::{Form, Written};
 use tagged_fields::writing::tag_buffer;
@@ -301,17 +298,17 @@ pub fn write(
     body: ResponseBody,
     items: &[u64],
     tags: &[u64],
-) -> BodyWritten
-    ensures { body_replied result out.new ≡ write_answer Api.response version lent.now (of_response body ∷ items.now ∷ tags.now ∷ []) out.old }
+) -> Written
+    ensures { replied result out.new ≡ write_answer Api.response version lent.now (of_response body ∷ items.now ∷ tags.now ∷ []) out.old }
 {
     let v = version_of(version);
     if 3 < v {
-        return BodyWritten::Refused(without_field(at(NO_VERSION, 0), API_VERSIONS_RESPONSE));
+        return Written::Refused(at(NO_VERSION, 0));
     }
     let throttle = body.throttle;
     // unset, it is written as 0
     let n = given(throttle, 0);
-    match written(
+    written(
         out,
         1 <= v,
         3 <= v,
@@ -322,8 +319,5 @@ pub fn write(
         body.tags,
         items,
         tags,
-    ) {
-        Written::Wrote(all) => BodyWritten::Wrote(all),
-        Written::Refused(e) => BodyWritten::Refused(with_name(e, 1 <= v, body.error, n, items)),
-    }
+    )
 }

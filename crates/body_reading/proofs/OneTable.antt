@@ -8,7 +8,7 @@ use native.Mathlib.Omega.{arith}
 use lib.IntN.{pos}
 use lib.ListN.{length}
 use Rattle.layout.specs.Reading.{Refusal, Res, bad, no_room, ok}
-use Rattle.layout.specs.Answers.{Message, accepted, most, read_answer, refused, shape, widths}
+use Rattle.layout.specs.Answers.{Message, accepted, most, prefix_read, refused, shape, widths}
 use Rattle.layout.proofs.Proper.{proper}
 use Rattle.body_reading.specs.Store.{State, Tab, add, own, store, tab}
 use Rattle.body_reading.specs.Walk.{Places, on, walk}
@@ -50,17 +50,20 @@ module _ (m : Message) (h : proper m ≡ true) (few : slim m ≡ true) (one : 1 
     may_leave q e = absurd (let z : ◌≡◌ {A = ℕ} 0 1 = cc in omega arith)
 
     -- the bytes are refused
-    pub one_no : (c : Refusal) → bad c ≡ run t₀ → (refused c, (t₁ ++ l) ∷ []) ≡ read_answer false m (pos v) (l ∷ []) s
+    pub one_no : (c : Refusal) → bad c ≡ run t₀ → (refused c, (t₁ ++ l) ∷ []) ≡ prefix_read m (pos v) (l ∷ []) s
+    unfolding prefix_read
     one_no c e = ap (λ (t : List ℕ). (refused c, t ∷ [])) (sym same) ∙ answers_no m h few false v known s size (l ∷ []) (t₀ ∷ []) one one c e
 
     module _ (row : List ℕ) (q k : ℕ) (first : ok (own row ∷ tab t₁ k ∷ []) q ≡ run t₀) where
       -- 10
-      pub one_needs : length (t₁ ++ l) / w < k / w → (c : Refusal) → c ≡ no_room (k / w) → (refused c, (t₁ ++ l) ∷ []) ≡ read_answer false m (pos v) (l ∷ []) s
+      pub one_needs : length (t₁ ++ l) / w < k / w → (c : Refusal) → c ≡ no_room (k / w) → (refused c, (t₁ ++ l) ∷ []) ≡ prefix_read m (pos v) (l ∷ []) s
+      unfolding prefix_read
       one_needs i c e =
           (λ j. (refused (e j), sym same j ∷ []))
           ∙ answers_needs m h few false v known s size (l ∷ []) (t₀ ∷ []) one one row (tab t₁ k ∷ []) q first (may_leave q) (k / w) (short_some k (length l) (subst (λ (t : List ℕ). length t / w < k / w) (sym same) i))
 
       -- the rows have room, and the second walk's answer z is not looked at
-      pub one_took : k / w ≤ length (t₁ ++ l) / w → (l₂ : List ℕ) (z : Res State) → ((x : State) (n : ℕ) → z ≡ ok x n → slices x ≡ l₂ ∷ []) → z ≡ run (t₁ ++ l) → (accepted row q, l₂ ∷ []) ≡ read_answer false m (pos v) (l ∷ []) s
+      pub one_took : k / w ≤ length (t₁ ++ l) / w → (l₂ : List ℕ) (z : Res State) → ((x : State) (n : ℕ) → z ≡ ok x n → slices x ≡ l₂ ∷ []) → z ≡ run (t₁ ++ l) → (accepted row q, l₂ ∷ []) ≡ prefix_read m (pos v) (l ∷ []) s
+      unfolding prefix_read
       one_took i l₂ z f d =
           answers_fits m h few false v known s size (l ∷ []) (t₀ ∷ []) one one row (tab t₁ k ∷ []) q first (may_leave q) (fits k (length l) (subst (λ (t : List ℕ). k / w ≤ length t / w) (sym same) i)) z (d ∙ ap run (sym same)) (l₂ ∷ []) f

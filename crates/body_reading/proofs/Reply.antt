@@ -13,9 +13,8 @@ use lib.Seq.{sets, sets-eq}
 use borrow.Author.Tests.{ne_eqb}
 use Rattle.layout.specs.Reading.{Refusal, Res, bad, because, no_room, ok}
 use Rattle.layout.specs.Tables.{Tables, append, from, read_rows, row_width}
-use Rattle.layout.specs.Names.{name_at}
 use Rattle.layout.specs.Answers as Answers
-use Rattle.layout.specs.Answers.{Message, accepted, body_read, judged, laid, most, named, needed, none_yet, prefix_read, read_answer, refused, seen, shape, widths, with_name}
+use Rattle.layout.specs.Answers.{Message, accepted, judged, laid, most, needed, prefix_read, read_answer, refused, seen, shape, widths}
 use Rattle.body_reading.specs.Meter.{lengths, short}
 use Rattle.body_reading.specs.Store.{State, own}
 use Rattle.body_reading.specs.Walk.{on, walk}
@@ -152,13 +151,9 @@ pub up_to_four : (P : ℕ → Type 0) → P 0 → P 1 → P 2 → P 3 → P 4 �
 up_to_four P a b c d e = up_to 4 P (a, (b, (c, (d, e))))
 
 -- two of one layout read alike
-same_read : (m : Message) (a b : ℕ) → a ≤ m.last → b ≤ m.last → shape m a ≡ shape m b → (olds : Tables) (s : List ℕ) → read_answer false m (pos a) olds s ≡ read_answer false m (pos b) olds s
-unfolding read_answer seen
-same_read m a b h k e olds s = rw (le-true a m.last h, le-true b m.last k, e)
-
 pub one_layout : (m : Message) (a b : ℕ) → a ≤ m.last → b ≤ m.last → shape m a ≡ shape m b → (olds : Tables) (s : List ℕ) → prefix_read m (pos a) olds s ≡ prefix_read m (pos b) olds s
-unfolding prefix_read body_read named
-one_layout m a b h k e olds s = λ i. with_name (λ c. name_at m.number (e i) none_yet 0 s c) (same_read m a b h k e olds s i)
+unfolding prefix_read read_answer seen
+one_layout m a b h k e olds s = rw (le-true a m.last h, le-true b m.last k, e)
 
 -- ---- one walk, run twice: over scratch to measure, and over the lent tables to fill
 

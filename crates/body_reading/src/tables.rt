@@ -1,5 +1,5 @@
 // Stores into the tables that a caller lends. A store has room or not, and the mark always moves on, so that the same walk measures and fills.
-ghost use Rattle.std.specs.Prelude.{◌≡◌, [], ◌∷◌, ◌-◌, min};
+ghost use Rattle.std.specs.Prelude.{◌≡◌, [], ◌∷◌, ◌-◌};
 ghost use Rattle.body_reading.specs.Store.{step, store, tab};
 
 // Far beyond every table: a mark stops here.
@@ -10,15 +10,6 @@ pub fn less(a: usize, b: usize) -> usize
     ensures { result ≡ a - b }
 {
     if b <= a { a - b } else { 0 }
-}
-
-pub fn smaller(a: usize, b: usize) -> usize
-    ensures { result ≡ min a b }
-{
-    if a <= b {
-        return a;
-    }
-    b
 }
 
 fn stepped(mark: usize) -> usize

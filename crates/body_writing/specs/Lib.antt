@@ -2,5 +2,3 @@
 pub mod Asked
 -- what a writer of a part of a body promises
 pub mod Writes
--- what a walk to a faulty field answers
-pub mod Blames

@@ -1,4 +1,3 @@
 // What every writer of a body uses, from tables to bytes: ranges inside the lent bytes, counts that add up, texts; and the laws of bytes and faults.
 
-pub mod blames;
 pub mod ranges;

@@ -11,13 +11,12 @@ use lib.IntN.{ℤ, pos}
 use lib.ListN.{drop, length}
 use Rattle.layout.specs.Reading.{Refusal, Res, bad, ok}
 use Rattle.layout.specs.Tables.{Tables}
-use Rattle.layout.specs.Answers.{Answer, Message, accepted, body_read, judged, named, needed, prefix_read, read_answer, refused, roomy, seen, store_answer, tags_alone, widths, write_answer}
+use Rattle.layout.specs.Answers.{Answer, Message, accepted, judged, needed, prefix_read, read_answer, refused, roomy, seen, tags_alone, widths, write_answer}
 use Rattle.layout.specs.Lookup as Lookup
 use Rattle.layout.specs.Messages.ApiVersions as Api
 use Rattle.layout.specs.Messages.Fetch as Fetch
 use Rattle.layout.specs.Messages.Metadata as Metadata
 use Rattle.layout.proofs.Looked.{lookup_tells}
-use Rattle.layout.proofs.Named.{named_keeps}
 use Rattle.layout.proofs.Refusals.{Refuses, seen_refuses}
 use Rattle.gateway_primitives.specs.Kinds.{read_kind, write_kind}
 use Rattle.primitives.specs.Answers.{is_set}
@@ -36,7 +35,7 @@ use Rattle.gateway_fetch.specs.Replies.{fetch_numbers}
 use Rattle.gateway_fetch.specs.declared.FetchNumbers.{FetchNumbers}
 use Rattle.demands.specs.Refusals.{Answered, Fair, InNumbers}
 use Rattle.demands.proofs.Alone.{read_kind_lem, write_kind_lem}
-use Rattle.demands.proofs.Faults.{named_answered, no_room_lem, store_answered, write_answered}
+use Rattle.demands.proofs.Faults.{no_room_lem, write_answered}
 
 -- ---- reading
 
@@ -55,10 +54,6 @@ judged_answered m room size (ok st n) h = at_room (needed (widths m) (drop 1 st)
 pub read_answered : (w : Bool) (m : Message) (v : ℤ) (room : Tables) (s : List ℕ) → Answered (length s) room (read_answer w m v room s).1 (read_answer w m v room s).0
 unfolding read_answer
 read_answered w m v room s = judged_answered m room (length s) (seen w m v s) (λ e d. of_seen 9 (omega arith) s e (seen_refuses w m v s e d))
-
-pub body_answered : (w : Bool) (m : Message) (v : ℤ) (room : Tables) (s : List ℕ) → Answered (length s) room (body_read w m v room s).1 (body_read w m v room s).0
-unfolding body_read
-body_answered w m v room s = named_answered (length s) room m.number (named m v s) (named_keeps m v s) (read_answer w m v room s) (read_answered w m v room s)
 
 -- ---- in numbers
 
@@ -86,30 +81,28 @@ module _ {N A : Type 0} (F : Answer → N) (number place need : N → ℕ) (acce
 -- ---- each entry point of the C interface that is lent a table or an output: r is what it hands back, and what was lent is `before` and then `after`
 
 module _ (msg : List ℕ) (v : ℤ) (before after : Tables) where
-  pub read_api_versions_response : (whole : ℕ) (r : ResponseNumbers) → (r, after) ≡ told response_numbers (body_read (is_set whole) Api.response v before msg) → InNumbers (length msg) before after r.answer.number r.answer.place r.answer.need
-  read_api_versions_response whole = λ r. of_told response_numbers (λ x. x.answer.number) (λ x. x.answer.place) (λ x. x.answer.need) (λ c n. refl) (λ e. (refl, refl, refl)) (length msg) before _ (body_answered (is_set whole) Api.response v before msg) r after
+  pub read_api_versions_response : (whole : ℕ) (r : ResponseNumbers) → (r, after) ≡ told response_numbers (read_answer (is_set whole) Api.response v before msg) → InNumbers (length msg) before after r.number r.place r.need
+  read_api_versions_response whole = λ r. of_told response_numbers (λ x. x.number) (λ x. x.place) (λ x. x.need) (λ c n. refl) (λ e. (refl, refl, refl)) (length msg) before _ (read_answered (is_set whole) Api.response v before msg) r after
 
-  pub read_api_versions_request : (r : RequestNumbers) → (r, after) ≡ told request_numbers (prefix_read Api.request v before msg) → InNumbers (length msg) before after r.answer.number r.answer.place r.answer.need
+  pub read_api_versions_request : (r : RequestNumbers) → (r, after) ≡ told request_numbers (prefix_read Api.request v before msg) → InNumbers (length msg) before after r.number r.place r.need
   unfolding prefix_read
-  read_api_versions_request = λ r. of_told request_numbers (λ x. x.answer.number) (λ x. x.answer.place) (λ x. x.answer.need) (λ c n. refl) (λ e. (refl, refl, refl)) (length msg) before _ (body_answered false Api.request v before msg) r after
+  read_api_versions_request = λ r. of_told request_numbers (λ x. x.number) (λ x. x.place) (λ x. x.need) (λ c n. refl) (λ e. (refl, refl, refl)) (length msg) before _ (read_answered false Api.request v before msg) r after
 
   pub read_metadata_response : (r : MetadataNumbers) → (r, after) ≡ told metadata_numbers (prefix_read Metadata.response v before msg) → InNumbers (length msg) before after r.answer.number r.answer.place r.answer.need
   unfolding prefix_read
-  read_metadata_response = λ r. of_told metadata_numbers (λ x. x.answer.number) (λ x. x.answer.place) (λ x. x.answer.need) (λ c n. refl) (λ e. (refl, refl, refl)) (length msg) before _ (body_answered false Metadata.response v before msg) r after
+  read_metadata_response = λ r. of_told metadata_numbers (λ x. x.answer.number) (λ x. x.answer.place) (λ x. x.answer.need) (λ c n. refl) (λ e. (refl, refl, refl)) (length msg) before _ (read_answered false Metadata.response v before msg) r after
 
   pub read_fetch_response : (r : FetchNumbers) → (r, after) ≡ told fetch_numbers (prefix_read Fetch.response v before msg) → InNumbers (length msg) before after r.answer.number r.answer.place r.answer.need
   unfolding prefix_read
-  read_fetch_response = λ r. of_told fetch_numbers (λ x. x.answer.number) (λ x. x.answer.place) (λ x. x.answer.need) (λ c n. refl) (λ e. (refl, refl, refl)) (length msg) before _ (body_answered false Fetch.response v before msg) r after
+  read_fetch_response = λ r. of_told fetch_numbers (λ x. x.answer.number) (λ x. x.answer.place) (λ x. x.answer.need) (λ c n. refl) (λ e. (refl, refl, refl)) (length msg) before _ (read_answered false Fetch.response v before msg) r after
 
-  pub read_tagged_fields : (r : TagsNumbers) → (r, after) ≡ told tags_numbers (read_answer false tags_alone (pos 0) before msg) → InNumbers (length msg) before after r.answer.number r.answer.place r.answer.need
-  read_tagged_fields = λ r. of_told tags_numbers (λ x. x.answer.number) (λ x. x.answer.place) (λ x. x.answer.need) (λ c n. refl) (λ e. (refl, refl, refl)) (length msg) before _ (read_answered false tags_alone (pos 0) before msg) r after
+  pub read_tagged_fields : (r : TagsNumbers) → (r, after) ≡ told tags_numbers (prefix_read tags_alone (pos 0) before msg) → InNumbers (length msg) before after r.number r.place r.need
+  unfolding prefix_read
+  read_tagged_fields = λ r. of_told tags_numbers (λ x. x.number) (λ x. x.place) (λ x. x.need) (λ c n. refl) (λ e. (refl, refl, refl)) (length msg) before _ (read_answered false tags_alone (pos 0) before msg) r after
 
--- the four that write a body: m is the message, st its own row and tables; and tagged fields
+-- the five that write a body or tagged fields: m is the message, st its own row and tables
 pub written : (m : Message) (v : ℤ) (lent : List ℕ) (st : Tables) (before after : List ℕ) (r : Numbers) → (r, after) ≡ told numbers (write_answer m v lent st before) → InNumbers 0 before after r.number r.place r.need
 written m v lent st before after = λ r. of_told numbers (λ x. x.number) (λ x. x.place) (λ x. x.need) (λ c n. refl) (λ e. (refl, refl, refl)) 0 before _ (write_answered m v lent st before) r after
-
-pub written_tagged_fields : (lent : List ℕ) (st : Tables) (before after : List ℕ) (r : Numbers) → (r, after) ≡ told numbers (store_answer tags_alone (pos 0) lent st before) → InNumbers 0 before after r.number r.place r.need
-written_tagged_fields lent st before after = λ r. of_told numbers (λ x. x.number) (λ x. x.place) (λ x. x.need) (λ c n. refl) (λ e. (refl, refl, refl)) 0 before _ (store_answered tags_alone (pos 0) lent st before) r after
 
 -- nothing is lent for a host
 pub find_host : (msg : List ℕ) (v : ℤ) (node : ℕ) (r : HostNumbers) → r ≡ host_numbers (Lookup.lookup node v msg) → InNumbers {A = Tables} (length msg) [] [] r.number r.place r.need
@@ -121,9 +114,9 @@ find_host msg v node r p = subst (λ (y : HostNumbers). InNumbers {A = Tables} (
     go (Lookup.found a k) d = inl refl
 
 -- nor for a primitive that is read
-pub read_primitive : (msg : List ℕ) (kind : ℕ) (r : PrimitiveNumbers) → r ≡ primitive_numbers (read_kind kind msg) → InNumbers {A = Tables} (length msg) [] [] r.answer.number r.answer.place r.answer.need
-read_primitive msg kind r p = subst (λ (y : PrimitiveNumbers). InNumbers {A = Tables} (length msg) [] [] y.answer.number y.answer.place y.answer.need) (sym p)
-    (of_answer primitive_numbers (λ x. x.answer.number) (λ x. x.answer.place) (λ x. x.answer.need) (λ c n. refl) (λ e. (refl, refl, refl)) (length msg) [] [] (read_kind kind msg) (read_kind_lem kind msg))
+pub read_primitive : (msg : List ℕ) (kind : ℕ) (r : PrimitiveNumbers) → r ≡ primitive_numbers (read_kind kind msg) → InNumbers {A = Tables} (length msg) [] [] r.number r.place r.need
+read_primitive msg kind r p = subst (λ (y : PrimitiveNumbers). InNumbers {A = Tables} (length msg) [] [] y.number y.place y.need) (sym p)
+    (of_answer primitive_numbers (λ x. x.number) (λ x. x.place) (λ x. x.need) (λ c n. refl) (λ e. (refl, refl, refl)) (length msg) [] [] (read_kind kind msg) (read_kind_lem kind msg))
 
 pub write_primitive : (kind null value : ℕ) (content before after : List ℕ) (r : Numbers) → (r, after) ≡ told numbers (write_kind kind (is_set null) value content before) → InNumbers 0 before after r.number r.place r.need
 write_primitive kind null value content before after = λ r. of_told numbers (λ x. x.number) (λ x. x.place) (λ x. x.need) (λ c n. refl) (λ e. (refl, refl, refl)) 0 before _ (write_kind_lem kind (is_set null) value content before) r after

@@ -1,4 +1,4 @@
--- The second demand, for every message: both directions, of reading and of writing. Each call on a body promises one equation with `body_read` or `write_answer` of its message, and so these are laws of the calls;
+-- The second demand, for every message: both directions, of reading and of writing. Each call on a body promises one equation with `read_answer` or `write_answer` of its message, and so these are laws of the calls;
 -- at the end they stand for each entry point of the C interface.
 use mathlib.Core.Bool.{Bool, false, true}
 use mathlib.Core.List.{List, [], ◌++◌}
@@ -12,11 +12,11 @@ use Rattle.layout.specs.Reading.{Refusal, ok}
 use Rattle.layout.specs.Rows.{Value}
 use Rattle.layout.specs.Read.{by_bytes, read}
 use Rattle.layout.specs.Tables.{Tables, append, read_rows}
-use Rattle.layout.specs.Answers.{Answer, Message, accepted, body, body_read, laid, made, most, named, needed, prefix_read, refused, seen, shape, store_answer, widths, with_name, write_answer}
+use Rattle.layout.specs.Answers.{Answer, Message, accepted, body, laid, made, most, needed, prefix_read, read_answer, refused, seen, shape, widths, write_answer}
 use Rattle.layout.specs.Messages.ApiVersions as Api
 use Rattle.layout.specs.Messages.Fetch as Fetch
 use Rattle.layout.specs.Messages.Metadata as Metadata
-use Rattle.layout.proofs.Calls.{made_inv, read_answer_lem, read_inv, seen_inv, seen_prefix, seen_whole, with_name_took, write_inv}
+use Rattle.layout.proofs.Calls.{made_inv, read_answer_lem, read_inv, seen_inv, seen_prefix, seen_whole, write_inv}
 use Rattle.layout.proofs.Proper as Proper
 use Rattle.layout.proofs.Proper.{owed, proper}
 use Rattle.layout.proofs.Tests.{le-true}
@@ -33,17 +33,16 @@ use Rattle.gateway_fetch.specs.Replies.{fetch_numbers}
 use Rattle.gateway_fetch.specs.declared.FetchNumbers.{FetchNumbers}
 use Rattle.demands.specs.Meanings.{Accepted, Says, Taken, Writable, bytes_of}
 use Rattle.demands.specs.Refusals.{Answered}
-use Rattle.demands.proofs.Demand1.{body_answered}
+use Rattle.demands.proofs.Demand1.{read_answered}
 use Rattle.demands.proofs.Faults.{write_answered}
 
 -- ---- reading
 
 module _ (m : Message) (h : proper m ≡ true) (w : Bool) (v : ℕ) (s : List ℕ) where
   -- what is accepted means those bytes
-  pub says : (room : Tables) (row : List ℕ) (n : ℕ) (after : Tables) → body_read w m (pos v) room s ≡ (accepted row n, after) → Says w m v s room row n after
-  unfolding body_read
+  pub says : (room : Tables) (row : List ℕ) (n : ℕ) (after : Tables) → read_answer w m (pos v) room s ≡ (accepted row n, after) → Says w m v s room row n after
   says room row n after e =
-      let c = read_inv m (pos v) s room w row n after (with_name_took _ _ row n after e) in
+      let c = read_inv m (pos v) s room w row n after e in
       let d = seen_inv w m (pos v) s c.st n c.is_seen in
       let x : d.version ≡ v = (let i = d.is in cc) in
       let known : v ≤ m.last = subst (λ (k : ℕ). k ≤ m.last) x d.known in
@@ -54,11 +53,10 @@ module _ (m : Message) (h : proper m ≡ true) (w : Bool) (v : ℕ) (s : List �
 
   -- what the reader of the layout accepts within the limits is not refused
   pub taken : v ≤ m.last → length s ≤ most → (x : Value (List ℕ) (shape m v)) (n : ℕ) → read (by_bytes w) (shape m v) 0 s ≡ ok x n → (w ≡ true → n ≡ length s) → Taken w m v s n x
-  unfolding body_read
   taken known short x n e all-used =
       let o = owed m h v known in
       let l = lays w (shape m v) (suc m.tables) s x n (omega arith) o.names o.eating (omega arith) e in
-      record { rows = l.st; means = l.means; taken = λ room k. ap (with_name (named m (pos v) s)) (read_answer_lem m (pos v) s room w l.st n (is_seen w l.st l.reads all-used) k) }
+      record { rows = l.st; means = l.means; taken = λ room k. read_answer_lem m (pos v) s room w l.st n (is_seen w l.st l.reads all-used) k }
     where
       is_seen : (w : Bool) (st : Tables) → read_rows w append (shape m v) 0 (replicate (suc m.tables) []) 0 s ≡ ok st n → (w ≡ true → n ≡ length s) → seen w m (pos v) s ≡ ok st n
       is_seen false st d k = seen_prefix m v s st n known short d
@@ -82,7 +80,7 @@ module _ (m : Message) (v : ℕ) (lent : List ℕ) (st : Tables) (out : List ℕ
   -- what can be written is, where there is room
   pub not_refused : Writable m v lent st → length (bytes_of m v lent st) ≤ length out →
       write_answer m (pos v) lent st out ≡ (accepted [] (length (bytes_of m v lent st)), bytes_of m v lent st ++ drop (length (bytes_of m v lent st)) out)
-  unfolding write_answer store_answer made body
+  unfolding write_answer made body
   not_refused c room = rw (le-true v m.last c.known, c.good_tables, c.no_fault, le-true (length (bytes_of m v lent st)) most c.short, le-true (length (bytes_of m v lent st)) (length out) room)
 
 -- ---- in numbers: F makes a struct of an answer, and its number is 0 where the answer is an acceptance
@@ -101,14 +99,14 @@ module _ {N A : Type 0} (F : Answer → N) (number : N → ℕ) (refusal : (e : 
   told_accepted (refused e, x) a r after p z = let y : number r ≡ e.number = ap (λ (y : N × A). number y.0) p ∙ refusal e in absurd (omega (arith, a.0.least))
 
 module _ {N : Type 0} (F : Answer → N) (number : N → ℕ) (refusal : (e : Refusal) → number (F (refused e)) ≡ e.number) where
-  of_told : (m : Message) → proper m ≡ true → (w : Bool) (v : ℕ) (s : List ℕ) (room after : Tables) (r : N) → (r, after) ≡ told F (body_read w m (pos v) room s) → number r ≡ 0 → Accepted F w m v s room r after
+  of_told : (m : Message) → proper m ≡ true → (w : Bool) (v : ℕ) (s : List ℕ) (room after : Tables) (r : N) → (r, after) ≡ told F (read_answer w m (pos v) room s) → number r ≡ 0 → Accepted F w m v s room r after
   of_told m h w v s room after r p z =
-      let a = told_accepted F number refusal (length s) room _ (body_answered w m (pos v) room s) r after p z in
+      let a = told_accepted F number refusal (length s) room _ (read_answered w m (pos v) room s) r after p z in
       record { row = a.row; used = a.used; reply = a.reply; says = says m h w v s room a.row a.used after a.is }
 
   -- and the other direction
   pub told_taken : (m : Message) (w : Bool) (v : ℕ) (s : List ℕ) (n : ℕ) (x : Value (List ℕ) (shape m v)) (t : Taken w m v s n x) (room after : Tables) (r : N) → needed (widths m) (drop 1 t.rows) room ≡ none →
-      (r, after) ≡ told F (body_read w m (pos v) room s) → (r ≡ F (accepted (get_or t.rows 0 []) n)) × (after ≡ laid (drop 1 t.rows) room)
+      (r, after) ≡ told F (read_answer w m (pos v) room s) → (r ≡ F (accepted (get_or t.rows 0 []) n)) × (after ≡ laid (drop 1 t.rows) room)
   unfolding told
   told_taken m w v s n x t room after r k p =
       let q : ◌≡◌ {A = N × Tables} (r, after) (F (accepted (get_or t.rows 0 []) n), laid (drop 1 t.rows) room) = p ∙ ap (λ (o : Answer × Tables). (F o.0, o.1)) (t.taken room k) in
@@ -117,12 +115,12 @@ module _ {N : Type 0} (F : Answer → N) (number : N → ℕ) (refusal : (e : Re
 -- ---- each entry point that reads a body: what it accepts means those bytes
 
 module _ (v : ℕ) (msg : List ℕ) (room after : Tables) where
-  pub read_api_versions_response : (whole : ℕ) (r : ResponseNumbers) → (r, after) ≡ told response_numbers (body_read (is_set whole) Api.response (pos v) room msg) → r.answer.number ≡ 0 → Accepted response_numbers (is_set whole) Api.response v msg room r after
-  read_api_versions_response whole = of_told response_numbers (λ x. x.answer.number) (λ e. refl) Api.response Proper.api_response (is_set whole) v msg room after
+  pub read_api_versions_response : (whole : ℕ) (r : ResponseNumbers) → (r, after) ≡ told response_numbers (read_answer (is_set whole) Api.response (pos v) room msg) → r.number ≡ 0 → Accepted response_numbers (is_set whole) Api.response v msg room r after
+  read_api_versions_response whole = of_told response_numbers (λ x. x.number) (λ e. refl) Api.response Proper.api_response (is_set whole) v msg room after
 
-  pub read_api_versions_request : (r : RequestNumbers) → (r, after) ≡ told request_numbers (prefix_read Api.request (pos v) room msg) → r.answer.number ≡ 0 → Accepted request_numbers false Api.request v msg room r after
+  pub read_api_versions_request : (r : RequestNumbers) → (r, after) ≡ told request_numbers (prefix_read Api.request (pos v) room msg) → r.number ≡ 0 → Accepted request_numbers false Api.request v msg room r after
   unfolding prefix_read
-  read_api_versions_request = of_told request_numbers (λ x. x.answer.number) (λ e. refl) Api.request Proper.api_request false v msg room after
+  read_api_versions_request = of_told request_numbers (λ x. x.number) (λ e. refl) Api.request Proper.api_request false v msg room after
 
   pub read_metadata_response : (r : MetadataNumbers) → (r, after) ≡ told metadata_numbers (prefix_read Metadata.response (pos v) room msg) → r.answer.number ≡ 0 → Accepted metadata_numbers false Metadata.response v msg room r after
   unfolding prefix_read

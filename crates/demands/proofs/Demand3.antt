@@ -16,7 +16,7 @@ use Rattle.layout.specs.Reading.{Refusal}
 use Rattle.layout.specs.Primitives.{minus}
 use Rattle.layout.specs.Rows.{Shape, at, standing, stands, tag_rows}
 use Rattle.layout.specs.Tables.{Tables, chunks, good, good_cells, good_count, good_row, kind_of, row_width, rows_at, rows_of, width}
-use Rattle.layout.specs.Answers.{Answer, accepted, body_read, laid, named, needed, refused, shape, whole_read, widths, with_name}
+use Rattle.layout.specs.Answers.{Answer, accepted, laid, needed, refused, shape, whole_read, widths}
 use Rattle.layout.specs.Messages.ApiVersions as Api
 use Rattle.layout.specs.Settled.{Back, Shown, settled_row, shown_row}
 use Rattle.layout.proofs.Calls.{made_inv, read_answer_lem, seen_inv, tables_are, write_inv}
@@ -30,7 +30,7 @@ use Rattle.layout.proofs.Proper.{api_response, both, owed}
 use Rattle.layout.proofs.Returned as Returned
 use Rattle.layout.proofs.Returned.{api_response_follows, response_tables}
 use Rattle.layout.proofs.Tests.{le-true}
-use Rattle.names.specs.declared.BodyWritten.{BodyWritten}
+use Rattle.primitives_put.specs.declared.Written.{Written}
 use Rattle.api_versions_response.specs.Answers.{of_response}
 use Rattle.api_versions_response.specs.declared.ResponseBody.{ResponseBody}
 use Rattle.api_versions_response.specs.declared.ResponseReply.{ResponseReply}
@@ -111,7 +111,7 @@ joined_same : (rs : List (List ℕ)) → Contents.joined rs ≡ joined rs
 joined_same [] = refl
 joined_same (r ∷ rs) = ap (λ (cs : List ℕ). r ++ cs) (joined_same rs)
 
-module _ (out : List ℕ) (v : ℕ) (lent : List ℕ) (b : ResponseBody) (tables : Pair) (n : ℕ) (after : List ℕ) (e : Writes out v lent b tables (BodyWritten.Wrote n) after) where
+module _ (out : List ℕ) (v : ℕ) (lent : List ℕ) (b : ResponseBody) (tables : Pair) (n : ℕ) (after : List ℕ) (e : Writes out v lent b tables (Written.Wrote n) after) where
   abbrev st : Tables
   st = of_response b ∷ tables.0 ∷ tables.1 ∷ []
 
@@ -161,7 +161,7 @@ module _ (out : List ℕ) (v : ℕ) (lent : List ℕ) (b : ResponseBody) (tables
         sym (joined_same (rows_of 3 (get_or su 2 []))) ∙ ap Contents.joined a ∙ sym (H.others 2 refl)
 
     came_back : (room : Pair) → Room v tables room → (x : ResponseReply × Pair) → WholeRead body v room x → CameBack v lent b tables body room x
-    unfolding whole_read body_read laid
+    unfolding whole_read laid
     came_back room r x p =
         let s1 = get_or su 1 [] in
         let s2 = get_or su 2 [] in
@@ -173,7 +173,7 @@ module _ (out : List ℕ) (v : ℕ) (lent : List ℕ) (b : ResponseBody) (tables
         (λ i. needed (row_widths i) (d i) (room.0 ∷ room.1 ∷ [])) ∙ fits s1 s2 room.0 room.1 (subst (λ (u : ℕ). u ≤ length room.0 / 4) (sym j) r.0) (subst (λ (u : ℕ). u ≤ length room.1 / 3) (sym k) r.1) in
         let y : ResponseReply × Pair = (ResponseReply.Took (body_back v b) (length body), (onto s1 room.0, onto s2 room.1)) in
         let q : said x ≡ (accepted (get_or su 0 []) (length body), laid (drop 1 su) (room.0 ∷ room.1 ∷ [])) =
-        p ∙ ap (with_name (named Api.response (pos v) body)) (read_answer_lem Api.response (pos v) body (room.0 ∷ room.1 ∷ []) true su (length body) B.is_seen f) in
+        p ∙ read_answer_lem Api.response (pos v) body (room.0 ∷ room.1 ∷ []) true su (length body) B.is_seen f in
         let a : laid (drop 1 su) (room.0 ∷ room.1 ∷ []) ≡ onto s1 room.0 ∷ onto s2 room.1 ∷ [] = ap (λ (u : Tables). laid u (room.0 ∷ room.1 ∷ [])) d in
         let z : x ≡ y = response_unique _ x y q (λ i. (accepted (sym own_is i) (length body), sym a i)) in
         record {

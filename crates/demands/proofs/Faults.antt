@@ -2,7 +2,7 @@
 use mathlib.Core.Bool.{Bool, cond, false, true}
 use mathlib.Core.List.{List, [], ◌++◌, ◌∷◌}
 use mathlib.Core.Option.{none, some}
-use mathlib.Core.Path.{◌∙◌, ◌≡◌, refl, subst, sym}
+use mathlib.Core.Path.{◌≡◌, refl, subst, sym}
 use Prim.Native.Nat.{◌^◌, ◌≤◌, suc, zero, ℕ}
 use native.Mathlib.Omega.{arith}
 use lib.Dec.{leb, ltb}
@@ -14,8 +14,7 @@ use Rattle.layout.specs.Utf8.{utf8}
 use Rattle.layout.specs.Rows.{Basic, BasicValue, Shape, Value, absent, array, blob, boolean, end, field, lacking, level, natural, number, optional, text}
 use Rattle.layout.specs.Write.{basic_fault, fault, first_of, or, sized_fault, too_long, unless}
 use Rattle.layout.specs.Tables.{Tables, good}
-use Rattle.layout.specs.Answers.{Answer, Message, accepted, body, judged_good, made, meant, most, named_fault, offered, refused, shape, store_answer, stored, with_name, write_answer}
-use Rattle.layout.proofs.Named.{Keeps, named_fault_keeps}
+use Rattle.layout.specs.Answers.{Answer, Message, accepted, body, judged_good, made, meant, most, offered, refused, shape, stored, write_answer}
 use Rattle.demands.specs.Refusals.{Answered, Fair}
 
 pub no_room_lem : (size k : ℕ) → Fair size (no_room k)
@@ -109,23 +108,6 @@ stored_answered out (ok bs n) h = go (leb n (length out)) (stored out (ok bs n))
     go true x e = subst (λ (y : Answer × List ℕ). Answered 0 out y.1 y.0) (sym e) tt
     go false x e = subst (λ (y : Answer × List ℕ). Answered 0 out y.1 y.0) (sym e) (no_room_lem 0 n, refl)
 
-pub store_answered : (m : Message) (v : ℤ) (lent : List ℕ) (st : Tables) (out : List ℕ) → Answered 0 out (store_answer m v lent st out).1 (store_answer m v lent st out).0
-unfolding store_answer
-store_answered m v lent st out = stored_answered out (made m v lent st) (of_made m v lent st)
-
--- a name alters neither the number, nor the place, nor the need
-pub named_answered : {A : Type 0} (size : ℕ) (before : A) (m : ℕ) (g : Refusal → Refusal) → ((e : Refusal) → Keeps m e (g e)) → (x : Answer × A) → Answered size before x.1 x.0 → Answered size before (with_name g x).1 (with_name g x).0
-named_answered size before m g k (accepted r n, y) h = tt
-named_answered size before m g k (refused e, y) h = (
-  record {
-    least = (let a = h.0.least in let b = (k e).number_is in omega arith);
-    greatest = (let a = h.0.greatest in let b = (k e).number_is in omega arith);
-    place_in = (let a = h.0.place_in in let b = (k e).place_is in omega arith);
-    no_need = λ n. (k e).need_is ∙ h.0.no_need (λ i. n ((k e).number_is ∙ i));
-  },
-  h.1,
-)
-
 pub write_answered : (m : Message) (v : ℤ) (lent : List ℕ) (st : Tables) (out : List ℕ) → Answered 0 out (write_answer m v lent st out).1 (write_answer m v lent st out).0
 unfolding write_answer
-write_answered m v lent st out = named_answered 0 out m.number (named_fault m v lent st) (named_fault_keeps m v lent st) (store_answer m v lent st out) (store_answered m v lent st out)
+write_answered m v lent st out = stored_answered out (made m v lent st) (of_made m v lent st)

@@ -15,17 +15,16 @@ use Rattle.layout.specs.Rows.{Shape, Value, at, standing, stands, tag_rows}
 use Rattle.layout.specs.Read.{by_bytes, read}
 use Rattle.layout.specs.Write.{fault}
 use Rattle.layout.specs.Tables.{Tables, append, good, read_rows, slice, width}
-use Rattle.layout.specs.Answers.{Answer, accepted, body, laid, meant, most, named_fault, needed, no_rows, refused, roomy, shape, widths}
-use Rattle.layout.specs.Frames.{Header, frame_answer, frame_made, frame_named, frame_read, frame_seen, frame_size, frame_stored, frame_written, framed, in_frame, with_size, with_body}
+use Rattle.layout.specs.Answers.{Answer, accepted, body, laid, meant, most, needed, no_rows, refused, roomy, shape, widths}
+use Rattle.layout.specs.Frames.{Header, frame_made, frame_read, frame_seen, frame_size, frame_written, framed, in_frame, with_size, with_body}
 use Rattle.layout.specs.Messages.Headers as Headers
 use Rattle.layout.specs.Messages.Headers.{request_rows, response_rows}
 use Rattle.layout.specs.Settled.{gone, gone_count, num, request_header_tables, response_header_tables, settled_cells, settled_count, settled_row, settled_span, shown_cells, shown_span}
 use Rattle.layout.proofs.Back.{length_bytes_lem}
-use Rattle.layout.proofs.Calls.{Wrote, not_accepted, stored_inv, with_name_took}
+use Rattle.layout.proofs.Calls.{Wrote, not_accepted, stored_inv}
 use Rattle.layout.proofs.Frames.{Framed, frame_back, frame_made_lem, frame_refuses, size_inv}
 use Rattle.layout.proofs.Headers.{request_heads, request_proper, response_heads, response_proper}
 use Rattle.layout.proofs.Local.{not_ok}
-use Rattle.layout.proofs.Named.{frame_named_keeps, named_fault_keeps}
 use Rattle.layout.proofs.Proper.{owed, proper}
 use Rattle.layout.proofs.SettledRows.{tables_read}
 use Rattle.layout.proofs.Steps.{by_result}
@@ -33,8 +32,8 @@ use Rattle.layout.proofs.Tests.{by_test, le-true, lt-false, of_ge, of_le}
 use Rattle.layout.proofs.Trip.{lays, tables_mean}
 use Rattle.primitives.specs.declared.Field.{Field}
 use Rattle.body_reading.specs.Cells.{field_cells}
-use Rattle.names.specs.Answers.{body_replied}
-use Rattle.names.specs.declared.BodyWritten.{BodyWritten}
+use Rattle.primitives_put.specs.Answers.{replied}
+use Rattle.primitives_put.specs.declared.Written.{Written}
 use Rattle.frame.specs.Answers.{of_request, of_response}
 use Rattle.frame.specs.declared.RequestHeader.{RequestHeader}
 use Rattle.frame.specs.declared.ResponseHeader.{ResponseHeader}
@@ -47,13 +46,13 @@ use Rattle.demands.specs.Frames.{FrameAccepted, FrameSays, FrameTaken, FrameWrit
 use Rattle.demands.specs.Refusals.{Answered, Fair, InNumbers}
 use Rattle.demands.proofs.Demand1.{judged_answered, of_seen, of_told}
 use Rattle.demands.proofs.Demand2.{told_accepted}
-use Rattle.demands.proofs.Faults.{fault_most, is_bad, named_answered, stored_answered}
+use Rattle.demands.proofs.Faults.{fault_most, is_bad, stored_answered}
 
 -- ---- the first demand
 
 frame_answered : (h : Header) (v : ℤ) (room : Tables) (s : List ℕ) → Answered (length s) room (frame_read h v room s).1 (frame_read h v room s).0
-unfolding frame_read frame_answer
-frame_answered h v room s = named_answered (length s) room h.rows.number (frame_named h v s) (frame_named_keeps h v s) (frame_answer h v room s) (judged_answered (with_size h.rows) room (length s) (frame_seen h v s) (λ e d. of_seen 14 (omega arith) s e (frame_refuses h v s e d)))
+unfolding frame_read
+frame_answered h v room s = judged_answered (with_size h.rows) room (length s) (frame_seen h v s) (λ e d. of_seen 14 (omega arith) s e (frame_refuses h v s e d))
 
 of_framed : (f : ℕ) → f ≤ 11 → (header rest : List ℕ) (e : Refusal) → framed f header rest ≡ bad e → Fair 0 e
 of_framed zero g header rest e h = by_test (leb (length header + length rest) most) (λ a. not_ok (sym (rw a at h))) (λ a. is_bad 2 e (omega arith) (omega arith) (let z : ◌≡◌ {A = Res (List ℕ)} (bad (because 2 0)) (bad e) = rw a at h in z))
@@ -74,8 +73,8 @@ of_frame_made h (pos v) lent st rest e d =
     l = shape h.rows v
 
 frame_write_answered : (h : Header) (v : ℤ) (lent : List ℕ) (st : Tables) (rest out : List ℕ) → Answered 0 out (frame_written h v lent st rest out).1 (frame_written h v lent st rest out).0
-unfolding frame_written frame_stored
-frame_write_answered h v lent st rest out = named_answered 0 out h.rows.number (named_fault h.rows v lent st) (named_fault_keeps h.rows v lent st) (frame_stored h v lent st rest out) (stored_answered out (frame_made h v lent st rest) (of_frame_made h v lent st rest))
+unfolding frame_written
+frame_write_answered h v lent st rest out = stored_answered out (frame_made h v lent st rest) (of_frame_made h v lent st rest)
 
 -- each entry point: r is what it hands back, and what was lent is `before` and then `after`
 module _ (msg : List ℕ) (v : ℤ) (before after : Tables) where
@@ -150,10 +149,8 @@ module _ (h : Header) (fit : proper (with_size h.rows) ≡ true) (v : ℕ) (s : 
         go (bad c) i e = not_ok e
 
   pub frame_says : (room : Tables) (row : List ℕ) (n : ℕ) (after : Tables) → frame_read h (pos v) room s ≡ (accepted row n, after) → FrameSays h v s room row n after
-  unfolding frame_read frame_answer
-  frame_says room row n after f =
-      let e = with_name_took (frame_named h (pos v) s) (frame_answer h (pos v) room s) row n after f in
-      by_result (frame_seen h (pos v) s) (λ st m d. go st m d (needed (widths (with_size h.rows)) (drop 1 st) room) (rw d at e)) (λ c d. not_accepted (rw d at e))
+  unfolding frame_read
+  frame_says room row n after e = by_result (frame_seen h (pos v) s) (λ st m d. go st m d (needed (widths (with_size h.rows)) (drop 1 st) room) (rw d at e)) (λ c d. not_accepted (rw d at e))
     where
       made : (st : Tables) (m : ℕ) → Seen st m → row ≡ get_or st 0 [] → n ≡ m → after ≡ laid (drop 1 st) room → FrameSays h v s room row n after
       made st m d i j k =
@@ -180,7 +177,7 @@ module _ (h : Header) (fit : proper (with_size h.rows) ≡ true) (v : ℕ) (s : 
 
   -- what the reader of the layout says of the frame at the front is not refused
   pub frame_taken : h.first ≤ v → v ≤ h.rows.last → (size n : ℕ) → frame_size s ≡ ok size n → (x : Value (List ℕ) L) (k : ℕ) → read (by_bytes false) L 0 (take n s) ≡ ok x k → FrameTaken h v s n k x
-  unfolding frame_read frame_answer frame_seen
+  unfolding frame_read frame_seen
   frame_taken t a size n i x k e =
       let z = size_inv s size n i in
       let o = owed (with_size h.rows) fit v a in
@@ -223,8 +220,8 @@ framed_long header rest =
 
 module _ (h : Header) (v : ℕ) (lent : List ℕ) (st : Tables) (rest out : List ℕ) where
   wrote : (r : List ℕ) (n : ℕ) (after : List ℕ) → frame_written h (pos v) lent st rest out ≡ (accepted r n, after) → Wrote (frame_made h (pos v) lent st rest) out n after
-  unfolding frame_written frame_stored
-  wrote r n after e = stored_inv (frame_made h (pos v) lent st rest) out r n after (with_name_took _ _ r n after e)
+  unfolding frame_written
+  wrote = stored_inv (frame_made h (pos v) lent st rest) out
 
   frame_long : length (frame_of h v lent st rest) ≡ 4 + (length (header_of h v lent st) + length rest)
   frame_long = framed_long (header_of h v lent st) rest
@@ -240,7 +237,7 @@ module _ (h : Header) (v : ℕ) (lent : List ℕ) (st : Tables) (rest out : List
   -- what can be written is, where there is room
   pub frame_not_refused : FrameWritable h v lent st rest → length (frame_of h v lent st rest) ≤ length out →
       frame_written h (pos v) lent st rest out ≡ (accepted [] (length (frame_of h v lent st rest)), frame_of h v lent st rest ++ drop (length (frame_of h v lent st rest)) out)
-  unfolding frame_written frame_stored frame_made body
+  unfolding frame_written frame_made body
   frame_not_refused c room =
       let k : 4 + (length (header_of h v lent st) + length rest) ≤ length out = omega (arith, frame_long) in
       rw (lt-false v h.first c.taken, le-true v h.rows.last c.known, c.good_tables, c.no_fault, le-true (length (header_of h v lent st) + length rest) most c.short, le-true (4 + (length (header_of h v lent st) + length rest)) (length out) k)
@@ -267,7 +264,7 @@ response_own lent z (suc zero) b c g = refl
 response_own lent z (suc (suc v)) b c g = absurd (omega arith)
 
 -- the frame at the front of an output, of a write that was accepted
-module _ (h : Header) (v : ℕ) (lent : List ℕ) (st : Tables) (rest out after : List ℕ) (n : ℕ) (e : body_replied (BodyWritten.Wrote n) after ≡ frame_written h (pos v) lent st rest out) where
+module _ (h : Header) (v : ℕ) (lent : List ℕ) (st : Tables) (rest out after : List ℕ) (n : ℕ) (e : replied (Written.Wrote n) after ≡ frame_written h (pos v) lent st rest out) where
   is_framed : Framed h v lent st rest (take n after) n
   is_framed =
       let w = wrote h v lent st rest out [] n after (sym e) in
@@ -278,14 +275,14 @@ module _ (h : Header) (v : ℕ) (lent : List ℕ) (st : Tables) (rest out after 
 
 -- out, what it is afterwards, and what was lent: any
 module _ (out : List ℕ) (v : ℕ) (lent : List ℕ) (n : ℕ) (after tags body : List ℕ) where
-  pub request_header_lem : (x : RequestHeader) → body_replied (BodyWritten.Wrote n) after ≡ frame_written Headers.request (pos v) lent (of_request x ∷ tags ∷ []) body out →
+  pub request_header_lem : (x : RequestHeader) → replied (Written.Wrote n) after ≡ frame_written Headers.request (pos v) lent (of_request x ∷ tags ∷ []) body out →
       HeaderBack Headers.request request_header_tables v lent (of_request x) (tags ∷ []) body (take n after) (request_header_back (length (take n after) - 4) v lent x)
   request_header_lem x e =
       let d = is_framed Headers.request v lent (of_request x ∷ tags ∷ []) body out after n e in
       let B = frame_back Headers.request request_header_tables request_heads v lent (of_request x) (tags ∷ []) body (take n after) n d refl in
       record { back = B; own_row = B.rows.own_row ∙ request_own lent _ v d.taken d.known x.request_api_key x.request_api_version x.correlation_id x.client_id x.tags }
 
-  pub response_header_lem : (x : ResponseHeader) → body_replied (BodyWritten.Wrote n) after ≡ frame_written Headers.response (pos v) lent (of_response x ∷ tags ∷ []) body out →
+  pub response_header_lem : (x : ResponseHeader) → replied (Written.Wrote n) after ≡ frame_written Headers.response (pos v) lent (of_response x ∷ tags ∷ []) body out →
       HeaderBack Headers.response response_header_tables v lent (of_response x) (tags ∷ []) body (take n after) (response_header_back (length (take n after) - 4) v x)
   response_header_lem x e =
       let d = is_framed Headers.response v lent (of_response x ∷ tags ∷ []) body out after n e in

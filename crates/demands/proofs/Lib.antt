@@ -12,5 +12,3 @@ pub mod Demand3
 pub mod Framed
 -- what comes back of requests
 pub mod Requests
--- every refusal is named
-pub mod Names

@@ -20,8 +20,8 @@ use Rattle.layout.proofs.Proper as Proper
 use Rattle.layout.proofs.Returned as Returned
 use Rattle.layout.proofs.Returned.{api_request_follows, fetch_request_follows, metadata_request_follows}
 use Rattle.primitives.proofs.Versions.{Each, up_to}
-use Rattle.names.specs.Answers.{body_replied}
-use Rattle.names.specs.declared.BodyWritten.{BodyWritten}
+use Rattle.primitives_put.specs.Answers.{replied}
+use Rattle.primitives_put.specs.declared.Written.{Written}
 use Rattle.body_reading.specs.Cells.{versioned_cells}
 use Rattle.body_reading.specs.declared.versioned.Versioned.{Versioned}
 use Rattle.api_versions_request.specs.Answers as ApiRow
@@ -80,19 +80,19 @@ fetch_own lent v h b = up_to 4 (FetchOwn lent b b.max_bytes b.isolation) (go b.m
 
 -- out, what it is afterwards, and what was lent: any
 module _ (out : List ℕ) (v : ℕ) (lent : List ℕ) (n : ℕ) (after : List ℕ) (w : Bool) where
-  pub api_versions_request_lem : (b : ApiBody.RequestBody) (tags : List ℕ) → body_replied (BodyWritten.Wrote n) after ≡ write_answer Api.request (pos v) lent (ApiRow.of_request b ∷ tags ∷ []) out →
+  pub api_versions_request_lem : (b : ApiBody.RequestBody) (tags : List ℕ) → replied (Written.Wrote n) after ≡ write_answer Api.request (pos v) lent (ApiRow.of_request b ∷ tags ∷ []) out →
       RequestBack Api.request request_tables v lent (ApiRow.of_request b ∷ tags ∷ []) (take n after) (api_versions_back v lent b) w
   api_versions_request_lem b tags e =
       let B = Returned.comes_back Api.request Proper.api_request request_tables api_request_follows v lent (ApiRow.of_request b ∷ tags ∷ []) out [] n after refl (sym e) w in
       record { back = B; own_row = B.rows.own_row ∙ api_own lent v B.known b.name b.version b.tags }
 
-  pub metadata_request_lem : (b : MetadataBody.RequestBody) (topics : List ℕ) → body_replied (BodyWritten.Wrote n) after ≡ write_answer Metadata.request (pos v) lent (MetadataRow.of_request b ∷ topics ∷ []) out →
+  pub metadata_request_lem : (b : MetadataBody.RequestBody) (topics : List ℕ) → replied (Written.Wrote n) after ≡ write_answer Metadata.request (pos v) lent (MetadataRow.of_request b ∷ topics ∷ []) out →
       RequestBack Metadata.request all_tables v lent (MetadataRow.of_request b ∷ topics ∷ []) (take n after) (metadata_back v b) w
   metadata_request_lem b topics e =
       let B = Returned.comes_back Metadata.request Proper.metadata_request_lem all_tables metadata_request_follows v lent (MetadataRow.of_request b ∷ topics ∷ []) out [] n after refl (sym e) w in
       record { back = B; own_row = B.rows.own_row ∙ metadata_own lent v B.known b.topics b.creation }
 
-  pub fetch_request_lem : (b : FetchBody.RequestBody) (topics partitions : List ℕ) → body_replied (BodyWritten.Wrote n) after ≡ write_answer Fetch.request (pos v) lent (FetchRow.of_request b ∷ topics ∷ partitions ∷ []) out →
+  pub fetch_request_lem : (b : FetchBody.RequestBody) (topics partitions : List ℕ) → replied (Written.Wrote n) after ≡ write_answer Fetch.request (pos v) lent (FetchRow.of_request b ∷ topics ∷ partitions ∷ []) out →
       RequestBack Fetch.request all_tables v lent (FetchRow.of_request b ∷ topics ∷ partitions ∷ []) (take n after) (fetch_back v b) w
   fetch_request_lem b topics partitions e =
       let B = Returned.comes_back Fetch.request Proper.fetch_request_lem all_tables fetch_request_follows v lent (FetchRow.of_request b ∷ topics ∷ partitions ∷ []) out [] n after refl (sym e) w in

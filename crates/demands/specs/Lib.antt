@@ -1,7 +1,5 @@
 -- the first demand: a refusal
 pub mod Refusals
--- every refusal is named
-pub mod Names
 -- the second demand: what is accepted means, and what is not refused
 pub mod Meanings
 -- an ApiVersions response that was written, as it comes back, and what the calls on it may reply

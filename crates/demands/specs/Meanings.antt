@@ -7,7 +7,7 @@ use Rattle.layout.specs.Rows.{Value}
 use Rattle.layout.specs.Read.{by_bytes, read}
 use Rattle.layout.specs.Write.{fault, write}
 use Rattle.layout.specs.Tables.{Tables, good}
-use Rattle.layout.specs.Answers.{Answer, Message, accepted, body_read, laid, meant, most, needed, shape, widths}
+use Rattle.layout.specs.Answers.{Answer, Message, accepted, laid, meant, most, needed, read_answer, shape, widths, write_answer}
 
 -- A read of the message s at version v that showed `row`, used n bytes and left `after` in place of `room`: the rows that it filled mean what the reader of the layout says of the bytes.
 pub record Says (w : Bool) (m : Message) (v : ℕ) (s : List ℕ) (room : Tables) (row : List ℕ) (n : ℕ) (after : Tables) : Type 0 where
@@ -20,7 +20,7 @@ pub record Says (w : Bool) (m : Message) (v : ℕ) (s : List ℕ) (room : Tables
 pub record Taken (w : Bool) (m : Message) (v : ℕ) (s : List ℕ) (n : ℕ) (x : Value (List ℕ) (shape m v)) : Type 0 where
   pub rows : Tables
   pub means : meant s rows (shape m v) ≡ x
-  pub taken : (room : Tables) → needed (widths m) (drop 1 rows) room ≡ none → body_read w m (pos v) room s ≡ (accepted (get_or rows 0 []) n, laid (drop 1 rows) room)
+  pub taken : (room : Tables) → needed (widths m) (drop 1 rows) room ≡ none → read_answer w m (pos v) room s ≡ (accepted (get_or rows 0 []) n, laid (drop 1 rows) room)
 
 -- the bytes of what the tables st mean, with texts in `lent`
 abbrev pub bytes_of : (m : Message) → ℕ → List ℕ → Tables → List ℕ

@@ -4,8 +4,8 @@ use Rattle.layout.specs.Reading.{Refusal}
 use Rattle.layout.specs.Tables.{rows_of}
 use Rattle.layout.specs.Answers.{accepted, refused, whole_read, write_answer}
 use Rattle.layout.specs.Messages.ApiVersions as Api
-use Rattle.names.specs.Answers.{body_replied}
-use Rattle.names.specs.declared.BodyWritten.{BodyWritten}
+use Rattle.primitives_put.specs.Answers.{replied}
+use Rattle.primitives_put.specs.declared.Written.{Written}
 use Rattle.api_versions_response.specs.Answers.{of_response, of_response_reply}
 use Rattle.api_versions_response.specs.declared.ResponseBody.{ResponseBody}
 use Rattle.api_versions_response.specs.declared.ResponseReply.{ResponseReply}
@@ -35,8 +35,8 @@ abbrev pub Refuses : Refusal → Pair → ResponseReply × Pair → Type 0
 Refuses e room x = (of_response_reply x.0 ≡ refused e) × (x.1.0 ≡ room.0) × (x.1.1 ≡ room.1)
 
 -- `write` may answer r and leave `after` in place of `out`
-abbrev pub Writes : List ℕ → ℕ → List ℕ → ResponseBody → Pair → BodyWritten → List ℕ → Type 0
-Writes out v lent b tables r after = body_replied r after ≡ write_answer Api.response (pos v) lent (of_response b ∷ tables.0 ∷ tables.1 ∷ []) out
+abbrev pub Writes : List ℕ → ℕ → List ℕ → ResponseBody → Pair → Written → List ℕ → Type 0
+Writes out v lent b tables r after = replied r after ≡ write_answer Api.response (pos v) lent (of_response b ∷ tables.0 ∷ tables.1 ∷ []) out
 
 -- tables with room: for every item, and every tag that comes back, that was lent
 abbrev pub Room : ℕ → Pair → Pair → Type 0

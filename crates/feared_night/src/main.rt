@@ -8,7 +8,8 @@ use api_versions_response::{ResponseBody, ResponseReply};
 use body_reading::versioned::Versioned;
 use body_writing::ranges::part;
 use libc::STDOUT_FILENO;
-use names::{BodyWritten, Named};
+use primitives::Refusal;
+use primitives_put::Written;
 
 fn say(s: &[u8]) {
     io::write_all(STDOUT_FILENO, s);
@@ -93,7 +94,7 @@ fn accepted(body: ResponseBody, used: usize) {
     say(b"\n");
 }
 
-fn refused(e: Named) {
+fn refused(e: Refusal) {
     say(b"refused, ");
     decimal(e.number as u64);
     say(b" at ");
@@ -198,10 +199,10 @@ fn body(name: &[u8], msg: &[u8]) {
 }
 
 // What was written, as a body.
-fn again(name: &[u8], r: BodyWritten, out: &[u8]) {
+fn again(name: &[u8], r: Written, out: &[u8]) {
     match r {
-        BodyWritten::Wrote(n) => body(name, part(out, 0, n as u64)),
-        BodyWritten::Refused(e) => refused(e),
+        Written::Wrote(n) => body(name, part(out, 0, n as u64)),
+        Written::Refused(e) => refused(e),
     }
 }
 

@@ -47,7 +47,7 @@ module _ (size c : ℕ) (topics partitions : List ℕ) where
       (λ r. ap (λ (b : Bool). ranged 0 size r && b) (and-true _ ∙ ap (good_count false) (get_or-drop 2 r 0 0))) (λ r. add-zero _ ∙ ap count (get_or-drop 2 r 0 0)) (λ r. refl) (all_true (rows_of 3 partitions)) (λ r. refl) (λ r. refl)
       ∙ ap (λ (b : Bool). good_count false c && (eqb (count c) (length topics / 3) && (telling && b))) (and-true (all_ranged 3 0 size topics))
 
-  abbrev pub judged : Bool
+  abbrev judged : Bool
   judged = good size 2 (request_shape false false) ((0 ∷ 0 ∷ 0 ∷ 0 ∷ 0 ∷ 0 ∷ 0 ∷ c ∷ []) ∷ topics ∷ partitions ∷ [])
 
   pub good_other : c ≢ length topics / 3 → false ≡ judged
@@ -103,7 +103,7 @@ module _ (lent : List ℕ) (replica wait least k m k' m' c : ℕ) (topics partit
   abbrev limits_hold : Bool → Bool → Bool
   limits_hold b i = cond b (holds w32 largest) true && cond i (leb level 1) true
 
-  is_fault : (b i : Bool) → fault_at lent (request_shape b i) 0 ((replica ∷ wait ∷ least ∷ k ∷ m ∷ k' ∷ m' ∷ c ∷ []) ∷ topics ∷ partitions ∷ []) ≡ or (unless lead_holds 11) (or (unless (limits_hold b i) 11) topics_fault)
+  pub is_fault : (b i : Bool) → fault_at lent (request_shape b i) 0 ((replica ∷ wait ∷ least ∷ k ∷ m ∷ k' ∷ m' ∷ c ∷ []) ∷ topics ∷ partitions ∷ []) ≡ or (unless lead_holds 11) (or (unless (limits_hold b i) 11) topics_fault)
   unfolding fault_at fault basic_fault value_of pop width basic_of stands unless or
   is_fault true true = lead_part _ ∙ ap (or (unless lead_holds 11)) (or_both (holds w32 largest) (leb level 1) 10 _ ∙ ap (or (unless (limits_hold true true) 11)) behind)
   is_fault true false = lead_part _ ∙ ap (or (unless lead_holds 11)) (ap₂ or (ap (λ (b : Bool). unless b 11) (sym (and-true (holds w32 largest)))) behind)
@@ -156,7 +156,7 @@ module _ (lent : List ℕ) (c : ℕ) (topics partitions : List ℕ) (own : Own) 
 -- ---- a partition's numbers
 
 -- every cell holds a number of 64 bits
-pub wide_holds : (n : ℕ) → n < 2 ^ 64 → holds w64 n ≡ true
+wide_holds : (n : ℕ) → n < 2 ^ 64 → holds w64 n ≡ true
 unfolding holds
 wide_holds n h = go (ltb n (2 ^ 63)) refl
   where

@@ -4,9 +4,7 @@ pub mod Walk
 pub mod Judgement
 -- the most bytes that a request can have
 pub mod Most
--- the field that is blamed
-pub mod Blamed
--- the answer to the call, and the name of its refusal
+-- the answer to the call
 pub mod Call
 -- a promise determines reply and output
 pub mod Unique

@@ -3,7 +3,6 @@
 use body_reading::versioned::Versioned;
 
 mod judge;
-mod naming;
 mod writing;
 
 pub use writing::write;

@@ -9,16 +9,13 @@ ghost use Rattle.layout.specs.Tables.{rows_of, sum};
 ghost use Rattle.primitives_put.specs.Step.{Capped, cap};
 ghost use Rattle.body_writing.specs.Writes.{bytes_at, counted_bytes, items_bytes, refusal_of, row_bytes, rows_bytes, takes};
 ghost use Rattle.primitives_put.specs.Answers.{replied};
-ghost use Rattle.names.specs.Answers.{body_replied};
 ghost use Rattle.fetch_request.specs.Answers.{of_request};
 ghost use Rattle.fetch_request.specs.Shapes.{lead_shape, limits_shape, own_row, partition_shape, request_shape, topic_shape, topics_shape};
 
 use crate::judge::{cells, refusal};
-use crate::naming::with_name;
 use crate::{Own, RequestBody};
 use body_reading::cells::given;
 use body_writing::ranges::part;
-use names::{BodyWritten, FETCH_REQUEST, without_field};
 use primitives::{MOST, NO_VERSION, TOO_LONG, at, no_room, version_of};
 use primitives_put::{Form, Written};
 
@@ -261,12 +258,12 @@ pub fn write(
     body: RequestBody,
     topics: &[u64],
     partitions: &[u64],
-) -> BodyWritten
-    ensures { body_replied result out.new ≡ write_answer Fetch.request version lent.now (of_request body ∷ topics.now ∷ partitions.now ∷ []) out.old }
+) -> Written
+    ensures { replied result out.new ≡ write_answer Fetch.request version lent.now (of_request body ∷ topics.now ∷ partitions.now ∷ []) out.old }
 {
     let v = version_of(version);
     if 4 < v {
-        return BodyWritten::Refused(without_field(at(NO_VERSION, 0), FETCH_REQUEST));
+        return Written::Refused(at(NO_VERSION, 0));
     }
     let max_bytes = body.max_bytes;
     let largest = given(max_bytes, 2147483647);
@@ -281,8 +278,5 @@ pub fn write(
         largest,
         level,
     };
-    match written(out, own, body.topics, lent, topics, partitions) {
-        Written::Wrote(n) => BodyWritten::Wrote(n),
-        Written::Refused(e) => { BodyWritten::Refused(with_name(e, own, lent, topics, partitions)) }
-    }
+    written(out, own, body.topics, lent, topics, partitions)
 }

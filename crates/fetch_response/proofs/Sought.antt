@@ -6,8 +6,8 @@ use Prim.Native.Nat.{◌<◌, ◌≤◌, ℕ}
 use native.Mathlib.Omega.{arith}
 use lib.Dec.{leb}
 use Rattle.layout.specs.Reading.{Res, nowhere}
-use Rattle.layout.specs.Primitives.{empty, fixed, never, w16, w32, w64}
-use Rattle.layout.specs.Rows.{Shape, array, blob, end, field, number, standing, stands, text}
+use Rattle.layout.specs.Primitives.{empty, fixed, w16, w32, w64}
+use Rattle.layout.specs.Rows.{Shape, array, blob, end, field, number, standing, stands}
 use Rattle.layout.specs.Names.{seek}
 use Rattle.layout.specs.Read.{read_basic}
 use Rattle.layout.proofs.Tests.{le-false, le-true}
@@ -37,16 +37,6 @@ module _ (q row : ℕ) (c s : List ℕ) (p : ℕ) (b : Bool) (z : Res (List ℕ)
       go : (x : Bool) → b ≡ x → z ≡ on (seek q (partition_shape b) row 0 c) s p
       go true e = with_stable e (g stable_shape)
       go false e = without_stable e (g (field (blob (fixed w32 empty)) end))
-
-  -- a topic
-  pub of_topic : z ≡ on (seek q (field (text (fixed w16 never)) (array (fixed w32 empty) 2 (partition_shape b) end)) row 0 c) s p → z ≡ on (seek q (topic_shape b) row 0 c) s p
-  unfolding topic_shape
-  of_topic g = g
-
-module _ (q row : ℕ) (c s : List ℕ) (p : ℕ) (z : Res (List ℕ)) where
-  pub of_stable : z ≡ on (seek q (field (number w64) (array (fixed w32 empty) 3 (numbers 2 w64) (field (blob (fixed w32 empty)) end))) row 3 c) s p → z ≡ on (seek q stable_shape row 3 c) s p
-  unfolding stable_shape
-  of_stable g = g
 
 -- ---- the body: a throttle time from version 1 on
 

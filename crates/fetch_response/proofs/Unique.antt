@@ -7,7 +7,6 @@ use Rattle.layout.specs.Reading.{Res, bad, ok}
 use Rattle.layout.specs.Tables.{Tables}
 use Rattle.layout.specs.Answers.{Answer, accepted, refused}
 use Rattle.primitives.proofs.Unique.{refusal_of, unique}
-use Rattle.names.proofs.Unique.{named_of}
 use Rattle.body_reading.specs.Cells.{versioned_cells}
 use Rattle.body_reading.specs.declared.versioned.Versioned.{Versioned}
 use Rattle.body_reading.proofs.Unique.{versioned_of}
@@ -27,7 +26,7 @@ body_back_lem (Versioned.Present i) n = refl
 
 abbrev reply_of : Answer → ResponseReply
 reply_of (accepted cs n) = ResponseReply.Took (body_of cs) n
-reply_of (refused e) = ResponseReply.Refused (named_of e)
+reply_of (refused e) = ResponseReply.Refused (refusal_of e)
 
 -- the tables of topics, partitions and aborted transactions
 pub record Three : Type 0 where

@@ -1,7 +1,7 @@
 // The Fetch response, versions 0 to 4, read into three tables: topics with their partitions, and these with their aborted transactions.
 // Numbers are cells, as in the tables: 64 bits, two's complement.
 use body_reading::versioned::Versioned;
-use names::Named;
+use primitives::Refusal;
 
 mod aborted;
 pub mod body;
@@ -24,5 +24,5 @@ pub struct ResponseBody {
 #[derive(Drop)]
 pub enum ResponseReply {
     Took { body: ResponseBody, used: usize },
-    Refused(Named),
+    Refused(Refusal),
 }

@@ -7,8 +7,7 @@ ghost use Rattle.layout.specs.Reading.{loop, nowhere};
 ghost use Rattle.layout.specs.Rows.{array, end};
 ghost use Rattle.primitives.specs.Answers.{of_refusal};
 ghost use Rattle.body_reading.specs.Walk.{on};
-ghost use Rattle.names.specs.Answers.{of_named};
-ghost use Rattle.names.specs.Walks.{element, of_sought};
+ghost use Rattle.names.specs.Walks.{element, of_named, of_sought};
 ghost use Rattle.fetch_response.specs.Seek.{stable_shape};
 ghost use Rattle.fetch_response.specs.Shapes.{body_shape};
 ghost use Rattle.fetch_response.specs.TopicShapes.{partition_shape, topic_shape};
@@ -16,7 +15,7 @@ ghost use Rattle.fetch_response.specs.TopicShapes.{partition_shape, topic_shape}
 use body_reading::places::Taken;
 use names::fields::{Counted, Passed, count, int16, int32, int64, records, string};
 use names::runs::Element;
-use names::{FETCH_RESPONSE, Named, Sought, begin, is_fieldless, named_by, runs, without_field};
+use names::{Named, Sought, begin, is_fieldless, named_by, runs, without_field};
 use primitives::{MINUS_ONE, Refusal};
 
 const TOPICS: usize = 1;
@@ -158,8 +157,8 @@ pub(crate) fn with_name(e: Refusal, msg: &[u8], v: u64) -> Named
     ensures { of_named result ≡ name_at 6 (body_shape v) none_yet 0 msg.now (of_refusal e) }
 {
     if is_fieldless(e.number) {
-        return without_field(e, FETCH_RESPONSE);
+        return without_field(e, 6);
     }
     let mut begun = [0u64; 8];
-    named_by(e, FETCH_RESPONSE, body(msg, e.place, v, &mut begun))
+    named_by(e, 6, body(msg, e.place, v, &mut begun))
 }

@@ -14,7 +14,7 @@ use Rattle.layout.specs.Rows.{Shape, at, number, standing, stands, tag_rows}
 use Rattle.layout.specs.Tables.{Tables, all, append, arrays, cells, from, kind_in, kind_of, read_rows, row_width, width}
 use Rattle.layout.specs.Read.{read_basic}
 use Rattle.layout.specs.Answers.{Answer, Message, accepted, judged, most, no_rows, refused, shape, widths}
-use Rattle.layout.specs.Frames.{Header, frame_answer, frame_seen, frame_size, with_size, with_body}
+use Rattle.layout.specs.Frames.{Header, frame_read, frame_seen, frame_size, with_size, with_body}
 use Rattle.layout.specs.Messages.Headers as Headers
 use Rattle.layout.specs.Messages.Headers.{request_rows, response_rows}
 use Rattle.primitives.specs.Answers.{of_refusal, version_of}
@@ -108,10 +108,10 @@ module _ (h : Header) (o : Ready h) (z : ℤ) (v : ℕ) (g : v ≡ version_of z)
   m = with_size h.rows
 
   abbrev reply : Answer × Tables
-  reply = frame_answer h z (l ∷ []) s
+  reply = frame_read h z (l ∷ []) s
 
   unknown : (c : Refusal) → c ≡ because 1 0 → frame_seen h z s ≡ bad (because 1 0) → (refused c, l ∷ []) ≡ reply
-  unfolding frame_answer
+  unfolding frame_read
   unknown c e d = (λ t. (refused (e t), l ∷ [])) ∙ ap (judged m (l ∷ [])) (sym d)
 
   pub reply_below : v < h.first → (c : Refusal) → c ≡ because 1 0 → (refused c, l ∷ []) ≡ reply
@@ -124,11 +124,11 @@ module _ (h : Header) (o : Ready h) (z : ℤ) (v : ℕ) (g : v ≡ version_of z)
 
   module _ (taken : h.first ≤ v) where
     module _ (known : v ≤ h.rows.last) where
-      of_number_lem : {x : Answer × Tables} → x ≡ frame_answer h (pos v) (l ∷ []) s → x ≡ reply
-      of_number_lem e = e ∙ ap (λ (y : ℤ). frame_answer h y (l ∷ []) s) (Versions.known h.rows z v g known o.low)
+      of_number_lem : {x : Answer × Tables} → x ≡ frame_read h (pos v) (l ∷ []) s → x ≡ reply
+      of_number_lem e = e ∙ ap (λ (y : ℤ). frame_read h y (l ∷ []) s) (Versions.known h.rows z v g known o.low)
 
       pub reply_size : (c : Refusal) → bad c ≡ frame_size s → (refused c, l ∷ []) ≡ reply
-      unfolding frame_answer frame_seen
+      unfolding frame_read frame_seen
       reply_size c d = of_number_lem (rw (lt-false v h.first taken, le-true v h.rows.last known, sym d))
 
       module _ (n all : ℕ) (d : ok n all ≡ frame_size s) (w : List ℕ) (i : w ≡ take all s) where
@@ -146,7 +146,7 @@ module _ (h : Header) (o : Ready h) (z : ℤ) (v : ℕ) (g : v ≡ version_of z)
 
         -- what is made of the frame's bytes, with the table
         in_frame_lem : judged m (l ∷ []) (with_body all seen) ≡ reply
-        unfolding frame_answer frame_seen
+        unfolding frame_read frame_seen
         in_frame_lem =
             of_number_lem
             (rw (lt-false v h.first taken, le-true v h.rows.last known, sym d)

@@ -9,10 +9,10 @@ use Rattle.layout.specs.Answers.{Answer, accepted, refused}
 use Rattle.layout.specs.Frames.{frame_written}
 use Rattle.layout.specs.Messages.Headers as Headers
 use Rattle.primitives.specs.declared.Field.{Field}
-use Rattle.primitives.proofs.Unique.{unique}
-use Rattle.names.specs.Answers.{body_replied}
-use Rattle.names.specs.declared.BodyWritten.{BodyWritten}
-use Rattle.names.proofs.Unique.{body_written_unique, named_of}
+use Rattle.primitives_put.specs.Answers.{replied}
+use Rattle.primitives_put.specs.declared.Written.{Written}
+use Rattle.primitives.proofs.Unique.{refusal_of, unique}
+use Rattle.primitives_put.proofs.Unique.{written_unique}
 use Rattle.body_reading.proofs.Unique.{field_of}
 use Rattle.frame.specs.Answers.{of_request, of_request_frame, of_response, of_response_frame}
 use Rattle.frame.specs.declared.RequestFrame.{RequestFrame}
@@ -25,11 +25,11 @@ use Rattle.frame.specs.declared.ResponseHeader.{ResponseHeader}
 abbrev request_of : Answer → RequestFrame
 request_of (accepted cs n) =
     RequestFrame.Took (record { request_api_key = get_or cs 0 0; request_api_version = get_or cs 1 0; correlation_id = get_or cs 2 0; client_id = field_of (get_or cs 3 0) (get_or cs 4 0) (get_or cs 5 0); tags = get_or cs 6 0 }) (get_or cs 7 0) (get_or cs 8 0) n
-request_of (refused e) = RequestFrame.Refused (named_of e)
+request_of (refused e) = RequestFrame.Refused (refusal_of e)
 
 abbrev response_of : Answer → ResponseFrame
 response_of (accepted cs n) = ResponseFrame.Took (record { correlation_id = get_or cs 0 0; tags = get_or cs 1 0 }) (get_or cs 2 0) (get_or cs 3 0) n
-response_of (refused e) = ResponseFrame.Refused (named_of e)
+response_of (refused e) = ResponseFrame.Refused (refusal_of e)
 
 -- one client name after the other
 by_client : (k v c t a n u : ℕ) (f : Field) → request_of (of_request_frame (RequestFrame.Took (record { request_api_key = k; request_api_version = v; correlation_id = c; client_id = f; tags = t }) a n u)) ≡ RequestFrame.Took (record { request_api_key = k; request_api_version = v; correlation_id = c; client_id = f; tags = t }) a n u
@@ -59,13 +59,13 @@ response_unique = unique response_said (λ (o : Answer × Tables). (response_of 
 
 -- ---- written
 
-module _ (number : ℤ) (lent tags body out : List ℕ) (x y : BodyWritten × List ℕ) where
+module _ (number : ℤ) (lent tags body out : List ℕ) (x y : Written × List ℕ) where
   pub written_request_unique : (header : RequestHeader) →
-      body_replied x.0 x.1 ≡ frame_written Headers.request number lent (of_request header ∷ tags ∷ []) body out →
-      body_replied y.0 y.1 ≡ frame_written Headers.request number lent (of_request header ∷ tags ∷ []) body out → x ≡ y
-  written_request_unique header = body_written_unique (frame_written Headers.request number lent (of_request header ∷ tags ∷ []) body out) x y
+      replied x.0 x.1 ≡ frame_written Headers.request number lent (of_request header ∷ tags ∷ []) body out →
+      replied y.0 y.1 ≡ frame_written Headers.request number lent (of_request header ∷ tags ∷ []) body out → x ≡ y
+  written_request_unique header = written_unique (frame_written Headers.request number lent (of_request header ∷ tags ∷ []) body out) x y
 
   pub written_response_unique : (header : ResponseHeader) →
-      body_replied x.0 x.1 ≡ frame_written Headers.response number lent (of_response header ∷ tags ∷ []) body out →
-      body_replied y.0 y.1 ≡ frame_written Headers.response number lent (of_response header ∷ tags ∷ []) body out → x ≡ y
-  written_response_unique header = body_written_unique (frame_written Headers.response number lent (of_response header ∷ tags ∷ []) body out) x y
+      replied x.0 x.1 ≡ frame_written Headers.response number lent (of_response header ∷ tags ∷ []) body out →
+      replied y.0 y.1 ≡ frame_written Headers.response number lent (of_response header ∷ tags ∷ []) body out → x ≡ y
+  written_response_unique header = written_unique (frame_written Headers.response number lent (of_response header ∷ tags ∷ []) body out) x y

@@ -10,7 +10,7 @@ use lib.IntN.{negsuc, pos, ℤ}
 use lib.ListN.{drop, length, length-append}
 use borrow.Rule.Slice.PartMut.{mid_of, put_mid}
 use Rattle.layout.specs.Answers.{Answer, Message, accepted, at_version, body, meant, most, refused, shape, stored}
-use Rattle.layout.specs.Frames.{Header, frame_made, frame_stored, framed, numbered}
+use Rattle.layout.specs.Frames.{Header, frame_made, frame_written, framed, numbered}
 use Rattle.layout.specs.Primitives.{bytes, plain}
 use Rattle.layout.specs.Reading.{Refusal, Res, bad, because, no_room}
 use Rattle.layout.specs.Rows.{Shape}
@@ -67,15 +67,15 @@ module _ {A : Type 0} (first : ℕ) (v : ℕ) where
   above m (negsuc n) i l f = refl
 
 module _ (h : Header) (z : ℤ) (v : ℕ) (i : v ≡ version_of z) (lent : List ℕ) (st : Tables) (rest out : List ℕ) (c : Refusal) (d : c ≡ because 1 0) where
-  unknown : frame_made h z lent st rest ≡ bad (because 1 0) → ◌≡◌ {A = Answer × List ℕ} (refused c, out) (frame_stored h z lent st rest out)
-  unfolding frame_stored
+  unknown : frame_made h z lent st rest ≡ bad (because 1 0) → ◌≡◌ {A = Answer × List ℕ} (refused c, out) (frame_written h z lent st rest out)
+  unfolding frame_written
   unknown e = (λ t. (refused (d t), out)) ∙ ap (stored out) (sym e)
 
-  pub number_below : v < h.first → ◌≡◌ {A = Answer × List ℕ} (refused c, out) (frame_stored h z lent st rest out)
+  pub number_below : v < h.first → ◌≡◌ {A = Answer × List ℕ} (refused c, out) (frame_written h z lent st rest out)
   unfolding frame_made
   number_below l = unknown (below h.first v z i l _)
 
-  pub number_above : h.rows.last < v → ◌≡◌ {A = Answer × List ℕ} (refused c, out) (frame_stored h z lent st rest out)
+  pub number_above : h.rows.last < v → ◌≡◌ {A = Answer × List ℕ} (refused c, out) (frame_written h z lent st rest out)
   unfolding frame_made
   number_above l = unknown (above h.first v h.rows z i l _)
 
@@ -94,18 +94,18 @@ module _ (h : Header) (v : ℕ) (lent : List ℕ) (st : Tables) (rest out : List
   header = bytes_at lent (shape h.rows v) 0 st
 
   module _ (t : h.first ≤ v) (k : v ≤ h.rows.last) where
-    is_framed : {e : ℕ} → e ≡ refusal → stored out (framed e header rest) ≡ frame_stored h (pos v) lent st rest out
-    unfolding frame_stored frame_made refusal_of bytes_at fault_at meant body
+    is_framed : {e : ℕ} → e ≡ refusal → stored out (framed e header rest) ≡ frame_written h (pos v) lent st rest out
+    unfolding frame_written frame_made refusal_of bytes_at fault_at meant body
     is_framed {e} i =
         ap (λ (n : ℕ). stored out (framed n header rest)) i
         ∙ sym (rw (lt-false v h.first t, le-true v h.rows.last k) (ap (stored out) (framed_good (good (length lent) h.rows.tables (shape h.rows 0) st) _ _ rest)))
 
     -- as it was asked for
     module _ (z : ℤ) (i : v ≡ version_of z) (l : h.rows.last < 65536) where
-      pub number_known : (o : Answer × List ℕ) → o ≡ frame_stored h (pos v) lent st rest out → o ≡ frame_stored h z lent st rest out
-      number_known o e = e ∙ ap (λ (y : ℤ). frame_stored h y lent st rest out) (known h.rows z v i k l)
+      pub number_known : (o : Answer × List ℕ) → o ≡ frame_written h (pos v) lent st rest out → o ≡ frame_written h z lent st rest out
+      number_known o e = e ∙ ap (λ (y : ℤ). frame_written h y lent st rest out) (known h.rows z v i k l)
 
-      pub number_refused : (e : ℕ) → e ≡ refusal → e ≢ 0 → (c : Refusal) → c ≡ because e 0 → ◌≡◌ {A = Answer × List ℕ} (refused c, out) (frame_stored h z lent st rest out)
+      pub number_refused : (e : ℕ) → e ≡ refusal → e ≢ 0 → (c : Refusal) → c ≡ because e 0 → ◌≡◌ {A = Answer × List ℕ} (refused c, out) (frame_written h z lent st rest out)
       number_refused zero j f c d = absurd (f refl)
       number_refused (suc e) j f c d = number_known (refused c, out) ((λ t. (refused (d t), out)) ∙ is_framed j)
 
@@ -114,26 +114,26 @@ module _ (h : Header) (v : ℕ) (lent : List ℕ) (st : Tables) (rest out : List
       same : e ++ out ≡ out
       same = ap (λ (x : List ℕ). x ++ out) (nil e s.long)
 
-      answer : (o : Answer × List ℕ) → o ≡ stored out (framed 0 header rest) → o ≡ frame_stored h (pos v) lent st rest out
+      answer : (o : Answer × List ℕ) → o ≡ stored out (framed 0 header rest) → o ≡ frame_written h (pos v) lent st rest out
       answer o i = i ∙ is_framed clean
 
-      pub frame_long : (c : Refusal) → c ≡ because 2 0 → most < n → ◌≡◌ {A = Answer × List ℕ} (refused c, e ++ out) (frame_stored h (pos v) lent st rest out)
+      pub frame_long : (c : Refusal) → c ≡ because 2 0 → most < n → ◌≡◌ {A = Answer × List ℕ} (refused c, e ++ out) (frame_written h (pos v) lent st rest out)
       frame_long c i l = answer (refused c, e ++ out) ((λ t. (refused (i t), same t)) ∙ sym (rw (le-false (length header + length rest) most (omega (arith, capped_over s l, length-append header rest)))))
 
       module _ (few : n ≤ most) where
         size_is : n ≡ length header + length rest
         size_is = capped_count s few ∙ length-append header rest
 
-        pub frame_short : (c : Refusal) → c ≡ no_room (4 + n) → length (e ++ out) < 4 + n → ◌≡◌ {A = Answer × List ℕ} (refused c, e ++ out) (frame_stored h (pos v) lent st rest out)
+        pub frame_short : (c : Refusal) → c ≡ no_room (4 + n) → length (e ++ out) < 4 + n → ◌≡◌ {A = Answer × List ℕ} (refused c, e ++ out) (frame_written h (pos v) lent st rest out)
         frame_short c i l =
             answer (refused c, e ++ out)
             ((λ t. (refused ((i ∙ ap (λ (k : ℕ). no_room (4 + k)) size_is) t), same t))
             ∙ sym (rw (le-true (length header + length rest) most (omega (arith, size_is)), le-false (4 + (length header + length rest)) (length out) (omega (arith, size_is, ap length same)))))
 
         -- the size is stored, and header and body after it
-        pub frame_stored_lem : {d x : List ℕ} {k m : ℕ} → 4 + n ≤ length (e ++ out) → Put (bytes 4 n) (e ++ out) k d → Capped (header ++ rest) (mid_of 4 (length d - 4) d) m x →
-            ◌≡◌ {A = Answer × List ℕ} (accepted [] (4 + n), put_mid 4 (length d - 4) d x) (frame_stored h (pos v) lent st rest out)
-        frame_stored_lem {d} {x} {k} {m} room p w =
+        pub frame_stored : {d x : List ℕ} {k m : ℕ} → 4 + n ≤ length (e ++ out) → Put (bytes 4 n) (e ++ out) k d → Capped (header ++ rest) (mid_of 4 (length d - 4) d) m x →
+            ◌≡◌ {A = Answer × List ℕ} (accepted [] (4 + n), put_mid 4 (length d - 4) d x) (frame_written h (pos v) lent st rest out)
+        frame_stored {d} {x} {k} {m} room p w =
             let long : length (bytes 4 n ++ (header ++ rest)) ≡ 4 + n = length-append (bytes 4 n) (header ++ rest) ∙ omega (arith, length_bytes_lem 4 n, length-append header rest, size_is) in
             let walk : Step (header ++ rest) (mid_of 4 (length d - 4) d) (length (header ++ rest)) x = record { count = refl; long = w.long; stored = w.stored (omega (arith, length-append header rest, size_is)) } in
             let all = step_behind (put_step p) 4 (omega (arith, p.count, (put_step p).long, length_bytes_lem 4 n)) walk in

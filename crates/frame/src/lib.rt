@@ -1,10 +1,7 @@
 // Frames: a size of four bytes, a header, and a body that is not read. Read and written, with Kafka's request headers 1 and 2 and response headers 0 and 1.
 // Numbers are cells, as in the tables: 64 bits, two's complement. Places count from the frame's first byte.
-use names::Named;
-use primitives::Field;
+use primitives::{Field, Refusal};
 
-mod naming;
-mod naming_written;
 mod numbers;
 mod reading;
 mod writing;
@@ -39,7 +36,7 @@ pub enum RequestFrame {
         len: usize,
         used: usize,
     },
-    Refused(Named),
+    Refused(Refusal),
 }
 
 #[derive(Drop)]
@@ -50,5 +47,5 @@ pub enum ResponseFrame {
         len: usize,
         used: usize,
     },
-    Refused(Named),
+    Refused(Refusal),
 }

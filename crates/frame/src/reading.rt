@@ -9,11 +9,9 @@ ghost use Rattle.body_reading.specs.Walk.{Runs, on, row_from, walk};
 ghost use Rattle.frame.specs.Answers.{of_request_frame, of_response_frame};
 ghost use Rattle.frame.specs.Walks.{front_shape, of_front, of_request_walked, of_response_walked};
 
-use crate::naming::{with_request_name, with_response_name};
 use crate::{RequestFrame, RequestHeader, ResponseFrame, ResponseHeader};
 use body_reading::places::{Taken, int16_at, int32_at};
 use body_reading::versioned::nullable_string_if;
-use names::{REQUEST_HEADER, RESPONSE_HEADER, without_field};
 use primitives::{
     BAD_SIZE, BYTES_END, Field, MINUS_ONE, MOST, NO_VERSION, Nullable, Number, Refusal, at,
     no_room, numbers, version_of,
@@ -133,20 +131,20 @@ pub fn read_request(s: &[u8], number: i64, tags: &mut [u64]) -> RequestFrame
 {
     let h = version_of(number);
     if h < 1 {
-        return RequestFrame::Refused(without_field(at(NO_VERSION, 0), REQUEST_HEADER));
+        return RequestFrame::Refused(at(NO_VERSION, 0));
     }
     if 2 < h {
-        return RequestFrame::Refused(without_field(at(NO_VERSION, 0), REQUEST_HEADER));
+        return RequestFrame::Refused(at(NO_VERSION, 0));
     }
     let all = match frame_size(s) {
         Number::Took { value: _, used } => used,
-        Number::Refused(e) => return RequestFrame::Refused(without_field(e, REQUEST_HEADER)),
+        Number::Refused(e) => return RequestFrame::Refused(e),
     };
     let frame = &s[..all];
     // Over no room the walk measures.
     let request = match request_header(frame, h, &mut tags[..0]) {
         RequestWalked::Took(w) => w,
-        RequestWalked::Refused(e) => return RequestFrame::Refused(with_request_name(e, frame, h)),
+        RequestWalked::Refused(e) => return RequestFrame::Refused(e),
     };
     let header = request.header;
     let took = RequestFrame::Took {
@@ -160,7 +158,7 @@ pub fn read_request(s: &[u8], number: i64, tags: &mut [u64]) -> RequestFrame
         return took;
     }
     if tags.len() / 3 < request.mark / 3 {
-        return RequestFrame::Refused(without_field(no_room(request.mark / 3), REQUEST_HEADER));
+        return RequestFrame::Refused(no_room(request.mark / 3));
     }
     request_header(frame, h, tags);
     took
@@ -219,19 +217,17 @@ pub fn read_response(s: &[u8], number: i64, tags: &mut [u64]) -> ResponseFrame
 {
     let h = version_of(number);
     if 1 < h {
-        return ResponseFrame::Refused(without_field(at(NO_VERSION, 0), RESPONSE_HEADER));
+        return ResponseFrame::Refused(at(NO_VERSION, 0));
     }
     let all = match frame_size(s) {
         Number::Took { value: _, used } => used,
-        Number::Refused(e) => return ResponseFrame::Refused(without_field(e, RESPONSE_HEADER)),
+        Number::Refused(e) => return ResponseFrame::Refused(e),
     };
     let frame = &s[..all];
     // Over no room the walk measures.
     let response = match response_header(frame, h, &mut tags[..0]) {
         ResponseWalked::Took(w) => w,
-        ResponseWalked::Refused(e) => return ResponseFrame::Refused(with_response_name(
-            e, frame, h,
-        )),
+        ResponseWalked::Refused(e) => return ResponseFrame::Refused(e),
     };
     let header = response.header;
     let took = ResponseFrame::Took {
@@ -245,7 +241,7 @@ pub fn read_response(s: &[u8], number: i64, tags: &mut [u64]) -> ResponseFrame
         return took;
     }
     if tags.len() / 3 < response.mark / 3 {
-        return ResponseFrame::Refused(without_field(no_room(response.mark / 3), RESPONSE_HEADER));
+        return ResponseFrame::Refused(no_room(response.mark / 3));
     }
     response_header(frame, h, tags);
     took

@@ -6,7 +6,7 @@ ghost use Rattle.layout.specs.Frames.{frame_written};
 ghost use Rattle.layout.specs.Messages.Headers as Headers;
 ghost use Rattle.layout.specs.Primitives.{holds, plain, w16, w32};
 ghost use Rattle.layout.specs.Tables.{count, good, good_cells};
-ghost use Rattle.names.specs.Answers.{body_replied};
+ghost use Rattle.primitives_put.specs.Answers.{replied};
 ghost use Rattle.primitives_put.specs.Step.{Capped};
 ghost use Rattle.body_reading.specs.Cells.{field_cells};
 ghost use Rattle.body_reading.specs.Tagged.{tag_shape};
@@ -14,15 +14,13 @@ ghost use Rattle.body_writing.specs.Writes.{bytes_at, counted_bytes, refusal_of,
 ghost use Rattle.frame.specs.Answers.{of_request, of_response};
 ghost use Rattle.frame.specs.Shapes.{client_field, client_shape, numbers_shape};
 
-use crate::naming_written::{request_name, response_name};
 use crate::{RequestHeader, ResponseHeader};
 use body_writing::ranges::{is_inside, part, string_fault};
-use names::{BodyWritten, REQUEST_HEADER, RESPONSE_HEADER, without_field};
 use primitives::{
     BAD_TABLES, Field, MOST, NO_VERSION, TOO_LONG, TOO_WIDE, at, no_room, version_of,
 };
-use primitives_put::Form;
 use primitives_put::replies::fits;
+use primitives_put::{Form, Written};
 use tagged_fields::writing::{is_good, tag_buffer};
 
 // ---- what is refused of a request header: 13, and then in field order 11 and 7
@@ -61,7 +59,7 @@ fn numbers_fit(key: u64, version: u64, correlation: u64) -> bool
 }
 
 // Null, as which an unset name is written, has no fault.
-pub(crate) fn client_fault(lent: &[u8], client: Field) -> u8
+fn client_fault(lent: &[u8], client: Field) -> u8
     ensures { result ≡ row_fault lent.now client_shape (field_cells client) }
 {
     match client {
@@ -174,20 +172,20 @@ fn store_request(
     header: RequestHeader,
     tags: &[u64],
     body: &[u8],
-) -> BodyWritten
+) -> Written
     requires { (1 ≤ number) × (number ≤ 2) × (0 ≡ refusal_of lent.now 1 (shape (Headers.request).rows 0) (shape (Headers.request).rows number) (of_request header ∷ tags.now ∷ [])) }
-    ensures { body_replied result out.new ≡ frame_written Headers.request (pos number) lent.now (of_request header ∷ tags.now ∷ []) body.now out.old }
+    ensures { replied result out.new ≡ frame_written Headers.request (pos number) lent.now (of_request header ∷ tags.now ∷ []) body.now out.old }
 {
     let all = put_request(&mut out[..0], number, lent, header, tags, body);
     if MOST < all {
-        return BodyWritten::Refused(without_field(at(TOO_LONG, 0), REQUEST_HEADER));
+        return Written::Refused(at(TOO_LONG, 0));
     }
     if out.len() < 4 + all {
-        return BodyWritten::Refused(without_field(no_room(4 + all), REQUEST_HEADER));
+        return Written::Refused(no_room(4 + all));
     }
     primitives_put::lowest(out, all as u64, 4);
     put_request(&mut out[4..], number, lent, header, tags, body);
-    BodyWritten::Wrote(4 + all)
+    Written::Wrote(4 + all)
 }
 
 // A frame with request header 1 or 2. `tags` are rows of tag, and start and length of its data in `lent`; the client name is a part of `lent` too.
@@ -198,19 +196,19 @@ pub fn write_request(
     header: RequestHeader,
     tags: &[u64],
     body: &[u8],
-) -> BodyWritten
-    ensures { body_replied result out.new ≡ frame_written Headers.request number lent.now (of_request header ∷ tags.now ∷ []) body.now out.old }
+) -> Written
+    ensures { replied result out.new ≡ frame_written Headers.request number lent.now (of_request header ∷ tags.now ∷ []) body.now out.old }
 {
     let h = version_of(number);
     if h < 1 {
-        return BodyWritten::Refused(without_field(at(NO_VERSION, 0), REQUEST_HEADER));
+        return Written::Refused(at(NO_VERSION, 0));
     }
     if 2 < h {
-        return BodyWritten::Refused(without_field(at(NO_VERSION, 0), REQUEST_HEADER));
+        return Written::Refused(at(NO_VERSION, 0));
     }
     let e = request_refusal(h, lent, header, tags);
     if e != 0 {
-        return BodyWritten::Refused(request_name(at(e, 0), lent, header));
+        return Written::Refused(at(e, 0));
     }
     store_request(out, h, lent, header, tags, body)
 }
@@ -255,20 +253,20 @@ fn store_response(
     header: ResponseHeader,
     tags: &[u64],
     body: &[u8],
-) -> BodyWritten
+) -> Written
     requires { (number ≤ 1) × (0 ≡ refusal_of lent.now 1 (shape (Headers.response).rows 0) (shape (Headers.response).rows number) (of_response header ∷ tags.now ∷ [])) }
-    ensures { body_replied result out.new ≡ frame_written Headers.response (pos number) lent.now (of_response header ∷ tags.now ∷ []) body.now out.old }
+    ensures { replied result out.new ≡ frame_written Headers.response (pos number) lent.now (of_response header ∷ tags.now ∷ []) body.now out.old }
 {
     let size = put_response(&mut out[..0], number, lent, header, tags, body);
     if MOST < size {
-        return BodyWritten::Refused(without_field(at(TOO_LONG, 0), RESPONSE_HEADER));
+        return Written::Refused(at(TOO_LONG, 0));
     }
     if out.len() < 4 + size {
-        return BodyWritten::Refused(without_field(no_room(4 + size), RESPONSE_HEADER));
+        return Written::Refused(no_room(4 + size));
     }
     primitives_put::lowest(out, size as u64, 4);
     put_response(&mut out[4..], number, lent, header, tags, body);
-    BodyWritten::Wrote(4 + size)
+    Written::Wrote(4 + size)
 }
 
 // The same with response header 0 or 1.
@@ -279,16 +277,16 @@ pub fn write_response(
     header: ResponseHeader,
     tags: &[u64],
     body: &[u8],
-) -> BodyWritten
-    ensures { body_replied result out.new ≡ frame_written Headers.response number lent.now (of_response header ∷ tags.now ∷ []) body.now out.old }
+) -> Written
+    ensures { replied result out.new ≡ frame_written Headers.response number lent.now (of_response header ∷ tags.now ∷ []) body.now out.old }
 {
     let h = version_of(number);
     if 1 < h {
-        return BodyWritten::Refused(without_field(at(NO_VERSION, 0), RESPONSE_HEADER));
+        return Written::Refused(at(NO_VERSION, 0));
     }
     let e = response_refusal(h, lent, header, tags);
     if e != 0 {
-        return BodyWritten::Refused(response_name(at(e, 0), header));
+        return Written::Refused(at(e, 0));
     }
     store_response(out, h, lent, header, tags, body)
 }

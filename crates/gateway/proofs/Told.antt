@@ -8,7 +8,7 @@ use mir.Facts.{to_z-of_z}
 use mir.Syntax.{w64}
 use mir.Val.{SFits, of_z, to_z}
 use Rattle.layout.specs.Tables.{Tables}
-use Rattle.layout.specs.Answers.{Answer, Message, body_read, prefix_read, whole_read, write_answer}
+use Rattle.layout.specs.Answers.{Answer, Message, prefix_read, read_answer, whole_read, write_answer}
 use Rattle.primitives.specs.Answers.{is_set}
 use Rattle.primitives.proofs.Versions.{set, unset}
 use Rattle.gateway.specs.Replies.{told}
@@ -24,13 +24,13 @@ module _ {N : Type 0} (f : Answer → N) (r : N) (a : Answer) (e : r ≡ f a) wh
     prefix_told x olds s h = told_by x _ (h ∙ ap (λ (y : ℤ). prefix_read m y olds s) (to_z-of_z g))
 
     module _ (n : ℕ) (x olds : Tables) (s : List ℕ) where
-      pub not_whole : n ≡ 0 → (a, x) ≡ prefix_read m (to_z w64 (of_z w64 z)) olds s → (r, x) ≡ told f (body_read (is_set n) m z olds s)
+      pub not_whole : n ≡ 0 → (a, x) ≡ prefix_read m (to_z w64 (of_z w64 z)) olds s → (r, x) ≡ told f (read_answer (is_set n) m z olds s)
       unfolding prefix_read
-      not_whole u h = told_by x _ (h ∙ ap₂ (λ (b : Bool) (y : ℤ). body_read b m y olds s) (sym (unset n u)) (to_z-of_z g))
+      not_whole u h = told_by x _ (h ∙ ap₂ (λ (b : Bool) (y : ℤ). read_answer b m y olds s) (sym (unset n u)) (to_z-of_z g))
 
-      pub is_whole : (n ≡ 0 → ⊥) → (a, x) ≡ whole_read m (to_z w64 (of_z w64 z)) olds s → (r, x) ≡ told f (body_read (is_set n) m z olds s)
+      pub is_whole : (n ≡ 0 → ⊥) → (a, x) ≡ whole_read m (to_z w64 (of_z w64 z)) olds s → (r, x) ≡ told f (read_answer (is_set n) m z olds s)
       unfolding whole_read
-      is_whole u h = told_by x _ (h ∙ ap₂ (λ (b : Bool) (y : ℤ). body_read b m y olds s) (sym (set n u)) (to_z-of_z g))
+      is_whole u h = told_by x _ (h ∙ ap₂ (λ (b : Bool) (y : ℤ). read_answer b m y olds s) (sym (set n u)) (to_z-of_z g))
 
     -- and the own row as it was lent
     pub write_told : (lent : List ℕ) (own row : List ℕ) (st : Tables) (out x : List ℕ) → own ≡ row → (a, x) ≡ write_answer m (to_z w64 (of_z w64 z)) lent (own ∷ st) out → (r, x) ≡ told f (write_answer m z lent (row ∷ st) out)

@@ -1,5 +1,5 @@
 -- What the entry points hand back: for each answer of the definitions (layout/specs/Answers.antt) the numbers of the struct.
--- An acceptance has the number 0; a refusal says its number, place and need, message, row and field, and every other number is 0. Assumes nothing.
+-- An acceptance has the number 0; a refusal tells its number, place and need, and every other number is 0. Assumes nothing.
 use Rattle.std.specs.Prelude.{ℕ}
 use Rattle.layout.specs.Answers.{Answer, accepted, refused}
 use Rattle.gateway.specs.declared.Numbers.{Numbers}
@@ -9,5 +9,5 @@ unfoldable pub told : {N A : Type 0} → (Answer → N) → Answer × A → N ×
 told f x = (f x.0, x.1)
 
 abbrev pub numbers : Answer → Numbers
-numbers (accepted cs n) = record { number = 0; place = 0; need = 0; message = 0; row = 0; field = 0; used = n }
-numbers (refused e) = record { number = e.number; place = e.place; need = e.need; message = e.message; row = e.row; field = e.field; used = 0 }
+numbers (accepted cs n) = record { number = 0; place = 0; need = 0; used = n }
+numbers (refused e) = record { number = e.number; place = e.place; need = e.need; used = 0 }

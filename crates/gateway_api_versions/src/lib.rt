@@ -1,5 +1,4 @@
 // The C interface to ApiVersions bodies and to version agreement: each answer as a struct of numbers, of the form that crates/gateway/src/lib.rt has.
-use gateway::Numbers;
 
 pub mod agreement;
 pub mod request;
@@ -9,7 +8,10 @@ pub mod response;
 #[repr(C)]
 #[derive(Drop)]
 pub struct ResponseNumbers {
-    pub answer: Numbers,
+    pub number: u64,
+    pub place: u64,
+    pub need: u64,
+    pub used: u64,
     pub error: u64,
     pub items: u64,
     pub kind: u64,
@@ -21,7 +23,10 @@ pub struct ResponseNumbers {
 #[repr(C)]
 #[derive(Drop)]
 pub struct RequestNumbers {
-    pub answer: Numbers,
+    pub number: u64,
+    pub place: u64,
+    pub need: u64,
+    pub used: u64,
     pub named: u64,
     pub nstart: u64,
     pub nlength: u64,

@@ -44,7 +44,10 @@ fn accepted(body: RequestBody, used: usize) -> RequestNumbers
     let name = body.name;
     let version = body.version;
     RequestNumbers {
-        answer: gateway::accepted(used),
+        number: 0,
+        place: 0,
+        need: 0,
+        used: used as u64,
         named: kind(name),
         nstart: start(name),
         nlength: length(name),
@@ -62,7 +65,10 @@ fn reply(r: RequestReply) -> RequestNumbers
     match r {
         RequestReply::Took { body, used } => accepted(body, used),
         RequestReply::Refused(e) => RequestNumbers {
-            answer: gateway::refused(e),
+            number: e.number as u64,
+            place: e.place as u64,
+            need: e.need as u64,
+            used: 0,
             named: 0,
             nstart: 0,
             nlength: 0,

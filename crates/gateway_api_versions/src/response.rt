@@ -1,6 +1,6 @@
 // ApiVersions responses: a body's own row is error, number of items, throttle time (kind, number) and number of tags.
 ghost use Rattle.std.specs.Prelude.{◌≡◌, [], ◌∷◌};
-ghost use Rattle.layout.specs.Answers.{accepted, body_read, write_answer};
+ghost use Rattle.layout.specs.Answers.{accepted, read_answer, write_answer};
 ghost use Rattle.layout.specs.Messages.ApiVersions as Api;
 ghost use Rattle.api_versions_response.specs.Answers.{of_response, of_response_reply};
 ghost use Rattle.primitives.specs.Answers.{is_set};
@@ -17,7 +17,10 @@ fn accepted(body: ResponseBody, used: usize) -> ResponseNumbers
 {
     let throttle = body.throttle;
     ResponseNumbers {
-        answer: gateway::accepted(used),
+        number: 0,
+        place: 0,
+        need: 0,
+        used: used as u64,
         error: body.error,
         items: body.items,
         kind: kind(throttle),
@@ -33,7 +36,10 @@ fn reply(r: ResponseReply) -> ResponseNumbers
     match r {
         ResponseReply::Took { body, used } => accepted(body, used),
         ResponseReply::Refused(e) => ResponseNumbers {
-            answer: gateway::refused(e),
+            number: e.number as u64,
+            place: e.place as u64,
+            need: e.need as u64,
+            used: 0,
             error: 0,
             items: 0,
             kind: 0,
@@ -52,7 +58,7 @@ pub extern "C" fn befrolan_read_api_versions_response(
     items: &mut [u64],
     tags: &mut [u64],
 ) -> ResponseNumbers
-    ensures { (result, items.new ∷ tags.new ∷ []) ≡ told response_numbers (body_read (is_set whole) Api.response version (items.old ∷ tags.old ∷ []) msg.now) }
+    ensures { (result, items.new ∷ tags.new ∷ []) ≡ told response_numbers (read_answer (is_set whole) Api.response version (items.old ∷ tags.old ∷ []) msg.now) }
 {
     if whole == 0 {
         return reply(api_versions_response::read(msg, version, items, tags));

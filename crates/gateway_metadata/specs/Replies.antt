@@ -36,9 +36,9 @@ metadata_numbers (refused e) = record {
 
 -- an empty host is found, with length 0
 abbrev pub host_numbers : Lookup.Host → HostNumbers
-host_numbers (Lookup.refused e) = record { number = e.number; place = e.place; need = e.need; message = e.message; row = e.row; field = e.field; found = 0; start = 0; length = 0 }
-host_numbers Lookup.unknown = record { number = 0; place = 0; need = 0; message = 0; row = 0; field = 0; found = 0; start = 0; length = 0 }
-host_numbers (Lookup.found a k) = record { number = 0; place = 0; need = 0; message = 0; row = 0; field = 0; found = 1; start = a; length = k }
+host_numbers (Lookup.refused e) = record { number = e.number; place = e.place; need = e.need; found = 0; start = 0; length = 0 }
+host_numbers Lookup.unknown = record { number = 0; place = 0; need = 0; found = 0; start = 0; length = 0 }
+host_numbers (Lookup.found a k) = record { number = 0; place = 0; need = 0; found = 1; start = a; length = k }
 
 -- ---- the row that a caller lends: kind 0 is unset, and any other set; flag 0 is false, and any other true
 

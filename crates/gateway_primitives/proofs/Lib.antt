@@ -3,5 +3,3 @@ pub mod ByKind
 -- a promise determines the reply: by kind, and of the entry points
 pub mod UniqueKinds
 pub mod Unique
--- the numbers of an answer
-pub mod Rows

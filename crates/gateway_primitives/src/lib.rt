@@ -1,5 +1,4 @@
 // The C interface to what is no message of its own: primitives by their kind, tagged fields, and the text check. Each answer is a struct of numbers, of the form that crates/gateway/src/lib.rt has.
-use gateway::Numbers;
 
 pub mod kinds;
 pub mod primitive;
@@ -12,7 +11,10 @@ pub mod write_kind;
 #[repr(C)]
 #[derive(Drop)]
 pub struct TagsNumbers {
-    pub answer: Numbers,
+    pub number: u64,
+    pub place: u64,
+    pub need: u64,
+    pub used: u64,
     pub tags: u64,
 }
 
@@ -20,7 +22,10 @@ pub struct TagsNumbers {
 #[repr(C)]
 #[derive(Drop)]
 pub struct PrimitiveNumbers {
-    pub answer: Numbers,
+    pub number: u64,
+    pub place: u64,
+    pub need: u64,
+    pub used: u64,
     pub form: u64,
     pub value: u64,
     pub length: u64,

@@ -7,7 +7,7 @@ ghost use Rattle.gateway_primitives.specs.Replies.{primitive_numbers};
 
 use crate::kinds::Reply;
 use crate::{PrimitiveNumbers, read_kind, write_kind};
-use gateway::{Numbers, primitive_written};
+use gateway::{Numbers, written};
 use primitives::is_set;
 
 // What a reader answers, as numbers.
@@ -21,13 +21,19 @@ fn reply(r: Reply) -> PrimitiveNumbers
             length,
             used,
         } => PrimitiveNumbers {
-            answer: gateway::accepted(used),
+            number: 0,
+            place: 0,
+            need: 0,
+            used: used as u64,
             form,
             value,
             length,
         },
         Reply::Refused(e) => PrimitiveNumbers {
-            answer: gateway::primitive_refused(e),
+            number: e.number as u64,
+            place: e.place as u64,
+            need: e.need as u64,
+            used: 0,
             form: 0,
             value: 0,
             length: 0,
@@ -53,5 +59,5 @@ pub extern "C" fn befrolan_write_primitive(
 ) -> Numbers
     ensures { (result, out.new) ≡ told numbers (write_kind kind (is_set null) value content.now out.old) }
 {
-    primitive_written(write_kind::primitive(out, kind, is_set(null), value, content))
+    written(write_kind::primitive(out, kind, is_set(null), value, content))
 }

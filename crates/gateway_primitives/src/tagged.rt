@@ -1,12 +1,12 @@
 // Tagged fields: a row of the table is a tag, and start and length of its data.
-ghost use Rattle.std.specs.Prelude.{false, ◌≡◌, [], ◌∷◌, pos};
-ghost use Rattle.layout.specs.Answers.{read_answer, store_answer, tags_alone};
+ghost use Rattle.std.specs.Prelude.{◌≡◌, [], ◌∷◌, pos};
+ghost use Rattle.layout.specs.Answers.{prefix_read, tags_alone, write_answer};
 ghost use Rattle.tagged_fields.specs.Read.{of_tagged};
 ghost use Rattle.gateway.specs.Replies.{numbers, told};
 ghost use Rattle.gateway_primitives.specs.Replies.{tags_numbers};
 
 use crate::TagsNumbers;
-use gateway::{Numbers, primitive_written};
+use gateway::{Numbers, written};
 use tagged_fields::reading::Tagged;
 
 // What a reader answers, as numbers.
@@ -15,11 +15,17 @@ fn reply(r: Tagged) -> TagsNumbers
 {
     match r {
         Tagged::Took { count, used } => TagsNumbers {
-            answer: gateway::accepted(used),
+            number: 0,
+            place: 0,
+            need: 0,
+            used: used as u64,
             tags: count,
         },
         Tagged::Refused(e) => TagsNumbers {
-            answer: gateway::primitive_refused(e),
+            number: e.number as u64,
+            place: e.place as u64,
+            need: e.need as u64,
+            used: 0,
             tags: 0,
         },
     }
@@ -27,7 +33,7 @@ fn reply(r: Tagged) -> TagsNumbers
 
 #[unsafe(no_mangle)]
 pub extern "C" fn befrolan_read_tagged_fields(msg: &[u8], table: &mut [u64]) -> TagsNumbers
-    ensures { (result, table.new ∷ []) ≡ told tags_numbers (read_answer false tags_alone (pos 0) (table.old ∷ []) msg.now) }
+    ensures { (result, table.new ∷ []) ≡ told tags_numbers (prefix_read tags_alone (pos 0) (table.old ∷ []) msg.now) }
 {
     reply(tagged_fields::reading::tagged_fields(msg, table))
 }
@@ -40,7 +46,7 @@ pub extern "C" fn befrolan_write_tagged_fields(
     count: u64,
     table: &[u64],
 ) -> Numbers
-    ensures { (result, out.new) ≡ told numbers (store_answer tags_alone (pos 0) lent.now ((count ∷ []) ∷ table.now ∷ []) out.old) }
+    ensures { (result, out.new) ≡ told numbers (write_answer tags_alone (pos 0) lent.now ((count ∷ []) ∷ table.now ∷ []) out.old) }
 {
-    primitive_written(tagged_fields::writing::tagged_fields(out, lent, count, table))
+    written(tagged_fields::writing::tagged_fields(out, lent, count, table))
 }

@@ -16,7 +16,7 @@ use Rattle.layout.specs.Primitives.{minus}
 use Rattle.layout.specs.Rows.{Shape}
 use Rattle.layout.specs.Write.{fault}
 use Rattle.layout.specs.Tables.{Tables, append, good, good_count, read_rows}
-use Rattle.layout.specs.Answers.{Answer, Message, accepted, body, body_read, ended, laid, made, meant, most, named, named_fault, needed, offered, prefix_read, read_answer, refused, roomy, seen, shape, store_answer, stored, widths, with_name, write_answer}
+use Rattle.layout.specs.Answers.{Answer, Message, accepted, body, ended, laid, made, meant, most, needed, offered, prefix_read, read_answer, refused, roomy, seen, shape, stored, widths, write_answer}
 use Rattle.layout.proofs.Contents.{Holds, rows_needed, rows_wide, rows_in, tables_hold}
 use Rattle.layout.proofs.Every.{Every}
 use Rattle.layout.proofs.Link.{keep, link, over, under}
@@ -139,40 +139,13 @@ module _ (m : Message) (v : ℤ) (s : List ℕ) where
         fits st k none d = not_accepted (sym d)
         fits st k (some j) d = sym (ap (λ (z : Answer × Tables). z.1) d)
 
--- ---- a name alters no acceptance, and of a refusal only message, row and field
-
-module _ {A : Type 0} (g : Refusal → Refusal) where
-  pub with_name_took : (x : Answer × A) (r : List ℕ) (n : ℕ) (after : A) → with_name g x ≡ (accepted r n, after) → x ≡ (accepted r n, after)
-  with_name_took (accepted r' n', y) r n after e = e
-  with_name_took (refused c, y) r n after e = not_accepted e
-
-  -- what an answer is, and its name
-  pub took_with_name : (x : Answer × A) (r : List ℕ) (n : ℕ) (after : A) → (accepted r n, after) ≡ x → (accepted r n, after) ≡ with_name g x
-  took_with_name x r n after e = ap (with_name g) e
-
-  pub refused_with_name : (x : Answer × A) (c e : Refusal) (after : A) → (refused e, after) ≡ x → c ≡ g e → (refused c, after) ≡ with_name g x
-  refused_with_name x c e after d h = ap (λ (z : Refusal). (refused z, after)) h ∙ ap (with_name g) d
-
-  -- a refusal, and what it is without its name
-  pub record Nameless (x : Answer × A) (e : Refusal) (after : A) : Type 0 where
-    pub nameless : Refusal
-    pub is : x ≡ (refused nameless, after)
-    pub has_name : e ≡ g nameless
-
-  pub without_name : (x : Answer × A) (e : Refusal) (after : A) → with_name g x ≡ (refused e, after) → Nameless x e after
-  without_name (accepted r n, y) e after d = not_accepted (sym d)
-  without_name (refused c, y) e after d =
-      let h : refused (g c) ≡ refused e = ap (λ (z : Answer × A). z.0) d in
-      let i : g c ≡ e = cc in
-      record { nameless = c; is = ap (λ (z : A). (refused c, z)) (ap (λ (z : Answer × A). z.1) d); has_name = sym i }
-
 -- the law of the prefix read: nothing behind the used bytes has a part in its answer
 pub prefix_local : (m : Message) (v : ℤ) (room : Tables) (s t r : List ℕ) (n : ℕ) (after : Tables) →
     prefix_read m v room s ≡ (accepted r n, after) → length (take n s ++ t) ≤ most → prefix_read m v room (take n s ++ t) ≡ (accepted r n, after)
-unfolding prefix_read body_read
+unfolding prefix_read
 prefix_local m v room s t r n after e h =
-    let d = read_inv m v s room false r n after (with_name_took _ _ r n after e) in
-    ap (with_name (named m v (take n s ++ t))) (read_answer_lem m v (take n s ++ t) room false d.st n (seen_local m v s d.st n t d.is_seen h) d.has_room ∙ (λ i. (accepted (d.row_is i) n, d.after_is i)))
+    let d = read_inv m v s room false r n after e in
+    read_answer_lem m v (take n s ++ t) room false d.st n (seen_local m v s d.st n t d.is_seen h) d.has_room ∙ (λ i. (accepted (d.row_is i) n, d.after_is i))
 
 -- the same of replies that say answers, each answer in one way: with other bytes behind the used ones the reply and the tables are the same
 module _ {R : Type 0} (say : R → Answer × Tables) (only : (o : Answer × Tables) (x y : R) → say x ≡ o → say y ≡ o → x ≡ y) (m : Message) where
@@ -255,8 +228,8 @@ stored_inv o out r n after e =
     (λ c d. not_accepted (rw d at e))
 
 pub write_inv : (m : Message) (v : ℤ) (lent : List ℕ) (st : Tables) (out r : List ℕ) (n : ℕ) (after : List ℕ) → write_answer m v lent st out ≡ (accepted r n, after) → Wrote (made m v lent st) out n after
-unfolding write_answer store_answer
-write_inv m v lent st out r n after e = stored_inv (made m v lent st) out r n after (with_name_took _ _ r n after e)
+unfolding write_answer
+write_inv m v lent st = stored_inv (made m v lent st)
 
 -- the law of writing: the whole read of what was written accepts it, at that version, and its tables mean what the written tables meant
 pub written_reads : (m : Message) → proper m ≡ true → (v : ℤ) (lent : List ℕ) (st : Tables) (bs : List ℕ) (n : ℕ) → (d : Made m v lent st bs n) → (w : Bool) → Laid w (shape m d.version) (suc m.tables) bs (meant lent st (shape m d.version)) (length bs)
@@ -311,8 +284,8 @@ pub stays_behind : (cs old : List ℕ) (st room : Tables) → drop (length cs) (
 unfolding laid
 stays_behind cs old st room = drop_at cs (drop (length cs) old) (length cs) refl
 
-pub need_of_a_write : (m : Message) (v : ℤ) (lent : List ℕ) (st : Tables) (bs out : List ℕ) (n : ℕ) → made m v lent st ≡ ok bs n → length out < n → write_answer m v lent st out ≡ (refused (named_fault m v lent st (no_room n)), out)
-unfolding write_answer store_answer
+pub need_of_a_write : (m : Message) (v : ℤ) (lent : List ℕ) (st : Tables) (bs out : List ℕ) (n : ℕ) → made m v lent st ≡ ok bs n → length out < n → write_answer m v lent st out ≡ (refused (no_room n), out)
+unfolding write_answer
 need_of_a_write m v lent st bs out n e h = rw (e, le-false n (length out) h)
 
 -- 13 for a count of −1 where there is neither null nor unset

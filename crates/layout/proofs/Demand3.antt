@@ -15,10 +15,10 @@ use Rattle.layout.specs.Rows.{Shape, Value}
 use Rattle.layout.specs.Read.{by_bytes, read}
 use Rattle.layout.specs.Write.{fault, write}
 use Rattle.layout.specs.Tables.{Tables, append, read_rows}
-use Rattle.layout.specs.Answers.{accepted, body, body_read, made, meant, most, named, refused, seen, shape, whole_read, with_name, write_answer}
+use Rattle.layout.specs.Answers.{accepted, body, made, meant, most, refused, seen, shape, whole_read, write_answer}
 use Rattle.layout.specs.Messages.ApiVersions as Api
 use Rattle.layout.proofs.AllRows.{good_again}
-use Rattle.layout.proofs.Calls.{ComesBack, comes_back, read_inv, read_refused, seen_fits, seen_inv, with_name_took}
+use Rattle.layout.proofs.Calls.{ComesBack, comes_back, read_inv, read_refused, seen_fits, seen_inv}
 use Rattle.layout.proofs.Strict.{Bytes, canonical, strict}
 use Rattle.layout.proofs.Clean.{Plain, yields_read}
 use Rattle.layout.proofs.Exclusive.{Accepted, Era, bare, era_of, exclusive, flexible, layout_is, layout_of, throttled}
@@ -78,19 +78,19 @@ at_its_layout v s st n e =
 -- whatever tables are lent: two versions that accept a body whole have one layout
 pub at_most_one : (v w : ℤ) (s : List ℕ) (room room' : Tables) (r r' : List ℕ) (n n' : ℕ) (after after' : Tables) →
     whole_read Api.response v room s ≡ (accepted r n, after) → whole_read Api.response w room' s ≡ (accepted r' n', after') → era v ≡ era w
-unfolding whole_read body_read
+unfolding whole_read
 at_most_one v w s room room' r r' n n' after after' a b =
-    let c = read_inv Api.response v s room true r n after (with_name_took _ _ r n after a) in
-    let d = read_inv Api.response w s room' true r' n' after' (with_name_took _ _ r' n' after' b) in
+    let c = read_inv Api.response v s room true r n after a in
+    let d = read_inv Api.response w s room' true r' n' after' b in
     exclusive s (seen_inv true Api.response v s c.st n c.is_seen).short (era v) (era w) (at_its_layout v s c.st n c.is_seen) (at_its_layout w s d.st n' d.is_seen)
 
 -- a body accepted whole at one layout is refused at every version of another, whatever tables are lent, and they are as they were
 pub other_refuses : (v w : ℤ) (s : List ℕ) (st : Tables) (n : ℕ) → seen true Api.response v s ≡ ok st n → era v ≢ era w → (e : Refusal) × ((room : Tables) → whole_read Api.response w room s ≡ (refused e, room))
-unfolding whole_read body_read
+unfolding whole_read
 other_refuses v w s st n a apart =
     by_result (seen true Api.response w s)
     (λ su k d. absurd (apart (exclusive s (seen_inv true Api.response v s st n a).short (era v) (era w) (at_its_layout v s st n a) (at_its_layout w s su k d))))
-    (λ e d. (named Api.response w s e, λ room. ap (with_name (named Api.response w s)) (read_refused Api.response w s room true e d)))
+    (λ e d. (e, λ room. read_refused Api.response w s room true e d))
 
 -- what the writer accepted at version v is accepted whole at v and means the same; at a version of another layout it is refused
 pub written_once : (v : ℤ) (lent : List ℕ) (st : Tables) (out r : List ℕ) (n : ℕ) (after : List ℕ) → write_answer Api.response v lent st out ≡ (accepted r n, after) →

@@ -4,9 +4,9 @@ use mathlib.Core.Bool.{Bool, ◌&&◌, cond, false, true}
 use mathlib.Core.List.{List, ◌∷◌, []}
 use mathlib.Core.Logic.{◌⊎◌, inl, inr}
 use mathlib.Core.Path.{◌∙◌, ◌≡◌, ap, refl, subst, sym}
-use Prim.Native.Nat.{◌+◌, ◌-◌, ◌≤◌, suc, zero, ℕ}
+use Prim.Native.Nat.{◌+◌, ◌-◌, ◌<◌, ◌≤◌, suc, zero, ℕ}
 use native.Mathlib.Omega.{arith}
-use lib.Dec.{eqb}
+use lib.Dec.{eqb, ltb}
 use lib.ListN.{drop, get_or}
 use Rattle.layout.specs.Reading.{Reader, Refusal, Res, bad, because, fail, give, loop, more, naming, ok, pick, placed, single, then}
 use Rattle.layout.specs.Primitives.{Size, admits, checked, compact, empty, fixed, keeps, kept, length_of, never, plain, refusal, sized, unsigned}

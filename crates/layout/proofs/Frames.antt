@@ -14,9 +14,8 @@ use Rattle.layout.specs.Rows.{Shape, Value, at, field, number, stands}
 use Rattle.layout.specs.Tables.{Tables, append, basic_of, good, pop, read_rows, value_of, width}
 use Rattle.layout.specs.Read.{by_bytes, read, read_basic}
 use Rattle.layout.specs.Write.{fault}
-use Rattle.layout.specs.Names.{name_at}
-use Rattle.layout.specs.Answers.{Message, at_version, body, judged, judged_good, meant, most, no_rows, none_yet, shape, with_name}
-use Rattle.layout.specs.Frames.{Header, frame_answer, frame_bytes, frame_made, frame_named, frame_read, frame_seen, frame_size, framed, in_frame, numbered, size_of, with_size, with_body}
+use Rattle.layout.specs.Answers.{Message, at_version, body, judged, judged_good, meant, most, no_rows, shape}
+use Rattle.layout.specs.Frames.{Header, frame_made, frame_read, frame_seen, frame_size, framed, in_frame, numbered, size_of, with_size, with_body}
 use Rattle.layout.specs.Settled.{FrameBack, Returned}
 use Rattle.layout.proofs.AllRows.{Follows, returned}
 use Rattle.layout.proofs.Back.{back_cell, back_pair, back_read, length_bytes_lem}
@@ -157,17 +156,9 @@ module _ (s : List ℕ) (n z : ℕ) (e : frame_size s ≡ ok n z) (t : List ℕ)
       ap (λ (o : Res Tables). numbered h.first (pos v) (cond (leb v h.rows.last) o (bad (because 1 0))))
       (rw (same_size, e) (ap (λ (w : List ℕ). with_body z (read_rows false append (shape (with_size h.rows) v) 0 (no_rows h.rows) 0 w)) same_frame))
 
-  same_frame_name : (h : Header) (v : ℤ) → frame_named h v other ≡ frame_named h v s
-  unfolding frame_named
-  same_frame_name h (negsuc v) = refl
-  same_frame_name h (pos v) = λ i c. name_at h.rows.number (shape h.rows v) none_yet 4 (drop 4 (same_bytes i)) c
-    where
-      same_bytes : frame_bytes other (frame_size other) ≡ frame_bytes s (frame_size s)
-      same_bytes = ap (frame_bytes other) same_size ∙ same_frame ∙ sym (ap (frame_bytes s) e)
-
   pub frame_read_local : (h : Header) (v : ℤ) (room : Tables) → frame_read h v room other ≡ frame_read h v room s
-  unfolding frame_read frame_answer
-  frame_read_local h v room = λ i. with_name (same_frame_name h v i) (judged (with_size h.rows) room (frame_local h v i))
+  unfolding frame_read
+  frame_read_local h v room = ap (judged (with_size h.rows) room) (frame_local h v)
 
 -- ---- what was written
 

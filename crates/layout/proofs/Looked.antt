@@ -1,8 +1,9 @@
 -- Address lookup: it refuses exactly what the prefix read refuses but for room, with the same refusal; else the first row of the node decides.
 use mathlib.Core.Bool.{false}
 use mathlib.Core.List.{List, []}
+use mathlib.Core.Logic.{◌↔◌}
 use mathlib.Core.Option.{Option, none, some}
-use mathlib.Core.Path.{◌∙◌, ◌≡◌, ap, subst, sym}
+use mathlib.Core.Path.{◌∙◌, ◌≡◌, ap}
 use Prim.Native.Nat.{ℕ}
 use native.Mathlib.Omega.{arith}
 use lib.IntN.{ℤ}
@@ -10,11 +11,10 @@ use lib.ListN.{get_or}
 use Rattle.layout.specs.Reading.{Refusal, bad, ok}
 use Rattle.layout.specs.Tables.{Tables, first_row, rows_of}
 use Rattle.layout.specs.Answers as Answers
-use Rattle.layout.specs.Answers.{body_read, named, prefix_read, seen, with_name}
+use Rattle.layout.specs.Answers.{prefix_read, seen}
 use Rattle.layout.specs.Lookup.{host_in, host_of, lookup, refused}
 use Rattle.layout.specs.Messages.Metadata.{response}
 use Rattle.layout.proofs.Calls.{read_refused}
-use Rattle.layout.proofs.Named.{named_keeps, refuses_named}
 use Rattle.layout.proofs.Refusals.{Refuses, seen_refuses}
 use Rattle.layout.proofs.Steps.{by_result}
 
@@ -23,36 +23,23 @@ not_refused none e h = let z : ◌≡◌ {A = ℕ} 0 1 = cc in absurd (omega ari
 not_refused (some r) e h = let z : ◌≡◌ {A = ℕ} 0 1 = cc in absurd (omega arith)
 
 module _ (node : ℕ) (v : ℤ) (s : List ℕ) where
-  -- e is what the bytes are refused with, and its name
-  pub record Refused (e : Refusal) : Type 0 where
-    pub nameless : Refusal
-    pub is : seen false response v s ≡ bad nameless
-    pub has_name : e ≡ named response v s nameless
-
-  pub lookup_refuses : (e : Refusal) → lookup node v s ≡ refused e → Refused e
+  pub lookup_refuses : (e : Refusal) → (lookup node v s ≡ refused e) ↔ (seen false response v s ≡ bad e)
   unfolding lookup
-  lookup_refuses e h =
-      by_result (seen false response v s) (λ st n d. not_refused (first_row node (rows_of 7 (get_or st 1 []))) e (rw d at h))
-      (λ c d. let g : refused (named response v s c) ≡ refused e = rw d at h in let x : named response v s c ≡ e = cc in record { nameless = c; is = d; has_name = sym x })
-
-  pub refuses_lookup : (e : Refusal) → seen false response v s ≡ bad e → lookup node v s ≡ refused (named response v s e)
-  unfolding lookup
-  refuses_lookup e d = ap (host_in (named response v s) node) d
+  lookup_refuses e = (
+    λ h. by_result (seen false response v s) (λ st n d. not_refused (first_row node (rows_of 7 (get_or st 1 []))) e (rw d at h)) (λ c d. let g : refused c ≡ refused e = rw d at h in let x : c ≡ e = cc in d ∙ ap bad x),
+    λ d. ap (host_in node) d,
+  )
 
   -- the prefix read gives the same refusal, whatever tables are lent
   pub as_prefix_read : (e : Refusal) → lookup node v s ≡ refused e → (room : Tables) → prefix_read response v room s ≡ (Answers.refused e, room)
-  unfolding prefix_read body_read
-  as_prefix_read e h room =
-      let r = lookup_refuses e h in
-      ap (with_name (named response v s)) (read_refused response v s room false r.nameless r.is) ∙ ap (λ (c : Refusal). (Answers.refused c, room)) (sym r.has_name)
+  unfolding prefix_read
+  as_prefix_read e h room = read_refused response v s room false e ((lookup_refuses e).0 h)
 
   -- so 10 is never given
   pub lookup_tells : (e : Refusal) → lookup node v s ≡ refused e → Refuses 9 s e
-  lookup_tells e h =
-      let r = lookup_refuses e h in
-      subst (Refuses 9 s) (sym r.has_name) (refuses_named 9 s (named_keeps response v s r.nameless) (seen_refuses false response v s r.nameless r.is))
+  lookup_tells e h = seen_refuses false response v s e ((lookup_refuses e).0 h)
 
   -- what is accepted is decided by the first row of the node
   pub lookup_rows : (st : Tables) (n : ℕ) → seen false response v s ≡ ok st n → lookup node v s ≡ host_of (first_row node (rows_of 7 (get_or st 1 [])))
   unfolding lookup
-  lookup_rows st n d = ap (host_in (named response v s) node) d
+  lookup_rows st n d = ap (host_in node) d

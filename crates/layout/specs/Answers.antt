@@ -80,7 +80,7 @@ abbrev pub judged : Message → Tables → Res Tables → Answer × Tables
 judged m room (bad e) = (refused e, room)
 judged m room (ok st n) = roomy st room n (needed (widths m) (drop 1 st) room)
 
--- the answer at version v to the message s, and the tables after it; a call on a body adds the name of a refusal
+-- the answer at version v to the message s, and the tables behind it
 unfoldable pub read_answer : Bool → Message → ℤ → Tables → List ℕ → Answer × Tables
 read_answer w m v room s = judged m room (seen w m v s)
 
@@ -93,19 +93,11 @@ unfoldable pub named : Message → ℤ → List ℕ → Refusal → Refusal
 named m (pos v) s e = name_at m.number (shape m v) none_yet 0 s e
 named m (negsuc v) s e = naming m.number nowhere nowhere e
 
--- an answer with the name of its refusal
-abbrev pub with_name : {A : Type 0} → (Refusal → Refusal) → Answer × A → Answer × A
-with_name g (accepted cs n, x) = (accepted cs n, x)
-with_name g (refused e, x) = (refused (g e), x)
-
-unfoldable pub body_read : Bool → Message → ℤ → Tables → List ℕ → Answer × Tables
-body_read w m v room s = with_name (named m v s) (read_answer w m v room s)
-
 unfoldable pub prefix_read : Message → ℤ → Tables → List ℕ → Answer × Tables
-prefix_read m v room s = body_read false m v room s
+prefix_read m v room s = read_answer false m v room s
 
 unfoldable pub whole_read : Message → ℤ → Tables → List ℕ → Answer × Tables
-whole_read m v room s = body_read true m v room s
+whole_read m v room s = read_answer true m v room s
 
 -- ---- writing
 
@@ -139,14 +131,11 @@ abbrev pub stored : List ℕ → Res (List ℕ) → Answer × List ℕ
 stored out (bad e) = (refused e, out)
 stored out (ok bs n) = cond (leb n (length out)) (accepted [] n, bs ++ drop n out) (refused (no_room n), out)
 
--- the answer at version v, with no row to show, and the output after it
-unfoldable pub store_answer : Message → ℤ → List ℕ → Tables → List ℕ → Answer × List ℕ
-store_answer m v lent st out = stored out (made m v lent st)
-
+-- the answer at version v, with no row to show, and the output behind it
 unfoldable pub write_answer : Message → ℤ → List ℕ → Tables → List ℕ → Answer × List ℕ
-write_answer m v lent st out = with_name (named_fault m v lent st) (store_answer m v lent st out)
+write_answer m v lent st out = stored out (made m v lent st)
 
--- ---- a primitive called by itself: no version, no name, and only tagged fields fill a table
+-- ---- a primitive called by itself: no version, and only tagged fields fill a table
 
 -- read: 2 first, and then from place 0
 unfoldable pub alone : {A : Type 0} → Reader A → List ℕ → Res A

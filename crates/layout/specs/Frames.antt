@@ -7,7 +7,7 @@ use Rattle.layout.specs.Rows.{row, int32}
 use Rattle.layout.specs.Write.{fault}
 use Rattle.layout.specs.Names.{name_at}
 use Rattle.layout.specs.Tables.{Tables, append, read_rows}
-use Rattle.layout.specs.Answers.{Message, Answer, shape, most, at_version, judged, judged_good, limited, meant, named_fault, no_rows, none_yet, body, stored, with_name}
+use Rattle.layout.specs.Answers.{Message, Answer, shape, most, at_version, judged, judged_good, limited, meant, no_rows, none_yet, body, stored}
 
 -- a header: its rows, with its numbers as their versions, and the lowest number that is taken
 pub record Header : Type 0 where
@@ -58,12 +58,9 @@ unfoldable pub frame_named : Header → ℤ → List ℕ → Refusal → Refusal
 frame_named h (pos v) s e = name_at h.rows.number (shape h.rows v) none_yet 4 (drop 4 (frame_bytes s (frame_size s))) e
 frame_named h (negsuc v) s e = naming h.rows.number nowhere nowhere e
 
--- the answer with header number v to the bytes s, and the table of tags after it; then with the name of a refusal
-unfoldable pub frame_answer : Header → ℤ → Tables → List ℕ → Answer × Tables
-frame_answer h v room s = judged (with_size h.rows) room (frame_seen h v s)
-
+-- the answer with header number v to the bytes s, and the table of tags after it
 unfoldable pub frame_read : Header → ℤ → Tables → List ℕ → Answer × Tables
-frame_read h v room s = with_name (frame_named h v s) (frame_answer h v room s)
+frame_read h v room s = judged (with_size h.rows) room (frame_seen h v s)
 
 -- ---- writing
 
@@ -77,8 +74,5 @@ unfoldable pub frame_made : Header → ℤ → List ℕ → Tables → List ℕ 
 frame_made h v lent st rest =
     numbered h.first v (at_version h.rows v (λ l. judged_good h.rows lent st (framed (fault l (meant lent st l)) (body lent st l) rest)))
 
-unfoldable pub frame_stored : Header → ℤ → List ℕ → Tables → List ℕ → List ℕ → Answer × List ℕ
-frame_stored h v lent st rest out = stored out (frame_made h v lent st rest)
-
 unfoldable pub frame_written : Header → ℤ → List ℕ → Tables → List ℕ → List ℕ → Answer × List ℕ
-frame_written h v lent st rest out = with_name (named_fault h.rows v lent st) (frame_stored h v lent st rest out)
+frame_written h v lent st rest out = stored out (frame_made h v lent st rest)

@@ -1,7 +1,7 @@
 -- The name of a refusal: a row and a field. On reading it is the field in which the place of the refusal lies: every field takes a byte or more,
 -- so a place lies in one field at most. On writing it is the first field with the fault. Rows count over their whole table, from 0; the body's own row is −1.
 -- A field counts in its version's list for its row, from 0, and a count is part of its array's field. Assumes nothing.
-use Rattle.std.specs.Prelude.{Bool, true, false, cond, ◌||◌, List, [], ◌∷◌, ℕ, suc, ◌+◌, ◌-◌, ◌%◌, ◌^◌, ltb, eqb, get_or, set}
+use Rattle.std.specs.Prelude.{Bool, true, false, cond, ◌||◌, List, [], ◌∷◌, ℕ, zero, suc, ◌+◌, ◌-◌, ◌%◌, ◌^◌, ltb, eqb, get_or, set}
 use Rattle.std.proofs.Math.Option.{none, some}
 use Rattle.layout.specs.Reading.{Refusal, because, naming, nowhere, Res, ok, bad, Reader, then, give, loop}
 use Rattle.layout.specs.Primitives.{keeps, admits, refusal, Maybe, length_of, checked, unsigned}

@@ -11,7 +11,7 @@ use lib.ListN.{get_or, length}
 use lib.Dec.{leb}
 use lib.IntN.{pos, ℤ}
 use borrow.Author.Tests.{eq-eqb, ne_eqb}
-use Rattle.layout.specs.Reading.{Reader, Refusal, Res, bad, because, give, many, more, ok, pair, then}
+use Rattle.layout.specs.Reading.{Reader, Refusal, Res, bad, give, many, more, ok, pair, then}
 use Rattle.layout.specs.Tables.{Span, Tables, absent_cells, arrays, cells, first_row, kind_in, kind_of, row_width, rows_of, width}
 use Rattle.layout.specs.Lookup.{Host, found, host_of, lookup, refused, unknown}
 use Rattle.body_reading.specs.Walk.{item_count, on, row_from}
@@ -20,8 +20,7 @@ use Rattle.metadata_response.specs.Brokers.{broker_shape}
 use Rattle.layout.specs.Primitives.{admits, checked, empty, fixed, length_of, refusal, sized, unsigned, w32}
 use Rattle.layout.specs.Rows.{Basic, Shape, Value, absent, array, at, done, end, field, int32, items, maybe, nullable_string, number, optional, row, rows, standing, stands}
 use Rattle.layout.specs.Read.{by_place, counted, read, read_basic}
-use Rattle.layout.specs.Names.{name_at}
-use Rattle.layout.specs.Answers.{none_yet, seen, shape}
+use Rattle.layout.specs.Answers.{seen, shape}
 use Rattle.layout.specs.Messages.Metadata.{broker_rows, node_rows, partition_rows, response, response_rows, topic_rows}
 use Rattle.body_reading.specs.Moved.{array_items}
 use Rattle.primitives.specs.Answers.{version_of}
@@ -32,16 +31,12 @@ use Rattle.body_reading.proofs.Chains.{both, give_took, same_end, same_value, th
 use Rattle.layout.proofs.Calls.{Seen, seen_inv, tables_are}
 use Rattle.layout.proofs.Contents.{Free, Holds, flatten, free_rows, joined, row_cells, rows_back, rows_wide, rows_in}
 use Rattle.layout.proofs.Every.{All}
-use Rattle.layout.proofs.Looked.{lookup_rows, refuses_lookup}
+use Rattle.layout.proofs.Looked.{lookup_refuses, lookup_rows}
 use Rattle.layout.proofs.Proper.{metadata_response_lem, owed, width_same, width_at}
 use Rattle.body_reading.proofs.Front.{Flat}
 use Rattle.body_reading.proofs.RowCells.{cells_absent, cells_end, cells_took, read_row}
 use Rattle.body_reading.proofs.Fronts.{count_took}
-use Rattle.primitives.proofs.Versions.{unseen}
-use Rattle.names.proofs.Replies.{name_is}
-use Rattle.metadata_response.specs.Shapes.{body_shape}
 use Rattle.metadata_response.proofs.BrokerRows.{broker_flat}
-use Rattle.metadata_response.proofs.Replies.{shape_is}
 
 -- ---- a search behind something else
 
@@ -297,18 +292,13 @@ module _ (node v : ℕ) (s : List ℕ) (st : Tables) (n : ℕ) (e : seen false r
 
 module _ (node : ℕ) (z : ℤ) (s : List ℕ) where
   -- the message is refused
-  pub answer_no : (e : Refusal) → bad e ≡ metered (seen false response z s) → (v : ℕ) → v ≡ version_of z → (c : Refusal) → c ≡ name_at 4 (body_shape v) none_yet 0 s e → refused c ≡ lookup node z s
+  pub answer_no : (c : Refusal) → bad c ≡ metered (seen false response z s) → refused c ≡ lookup node z s
   unfolding metered
-  answer_no e h v i c g = go (seen false response z s) refl h
+  answer_no c e = go (seen false response z s) refl e
     where
-      is_bad : seen false response z s ≡ bad e → refused c ≡ lookup node z s
-      is_bad d =
-          ap refused (name_is response z s v i (body_shape v) (shape_is v) (omega arith) c e (λ t. let b : bad e ≡ bad (because 1 0) = sym d ∙ unseen response z v i t false s in cc) g)
-          ∙ sym (refuses_lookup node z s e d)
-
-      go : (o : Res Tables) → seen false response z s ≡ o → bad e ≡ metered o → refused c ≡ lookup node z s
-      go (ok st n) d h = not_ok h
-      go (bad b) d h = let k : e ≡ b = cc in is_bad (d ∙ ap bad (sym k))
+      go : (o : Res Tables) → seen false response z s ≡ o → bad c ≡ metered o → refused c ≡ lookup node z s
+      go (ok st n) d e = not_ok e
+      go (bad b) d e = let k : c ≡ b = cc in sym ((lookup_refuses node z s c).1 (d ∙ ap bad (sym k)))
 
   -- or else the first broker of the node decides
   pub answer_took : (y : List ℕ × List ℕ) (n : ℕ) → ok y n ≡ metered (seen false response z s) → (v : ℕ) → v ≡ version_of z → (h : Host) → Seeks (brokers_of (leb 1 v) (leb 3 v)) s 0 node h → h ≡ lookup node z s

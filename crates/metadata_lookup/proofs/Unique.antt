@@ -13,13 +13,12 @@ use Rattle.layout.specs.Lookup.{lookup}
 use Rattle.layout.specs.Messages.Metadata.{response}
 use Rattle.layout.proofs.Calls.{seen_local}
 use Rattle.layout.proofs.Looked.{lookup_rows}
-use Rattle.primitives.proofs.Unique.{unique}
-use Rattle.names.proofs.Unique.{named_of}
+use Rattle.primitives.proofs.Unique.{refusal_of, unique}
 use Rattle.metadata_lookup.specs.Hosts.{of_host}
 use Rattle.metadata_lookup.specs.declared.Host.{Host}
 
 abbrev host_back : Lookup.Host → Host
-host_back (Lookup.refused e) = Host.Refused (named_of e)
+host_back (Lookup.refused e) = Host.Refused (refusal_of e)
 host_back Lookup.unknown = Host.Unknown
 host_back (Lookup.found a k) = Host.Found a k
 

@@ -4,7 +4,7 @@ use Rattle.layout.specs.Reading.{Reader, many, ok, then}
 use Rattle.layout.specs.Tables.{first_row}
 use Rattle.layout.specs.Lookup as Lookup
 use Rattle.layout.specs.Lookup.{host_of}
-use Rattle.names.specs.Answers.{of_named}
+use Rattle.primitives.specs.Answers.{of_refusal}
 use Rattle.body_reading.specs.Walk.{on, row_from}
 use Rattle.metadata_response.specs.Brokers.{broker_shape}
 use Rattle.body_reading.specs.Fronts.{front_of}
@@ -13,7 +13,7 @@ use Rattle.metadata_lookup.specs.declared.Host.{Host}
 abbrev pub of_host : Host → Lookup.Host
 of_host (Host.Found a k) = Lookup.found a k
 of_host Host.Unknown = Lookup.unknown
-of_host (Host.Refused e) = Lookup.refused (of_named e)
+of_host (Host.Refused e) = Lookup.refused (of_refusal e)
 
 -- h is the node's host among the rows that r reads. Where r refuses nothing is said: the message was judged before
 pub record Seeks (r : Reader (List (List ℕ))) (s : List ℕ) (p node : ℕ) (h : Lookup.Host) : Type 0 where

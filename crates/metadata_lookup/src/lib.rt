@@ -10,20 +10,18 @@ ghost use Rattle.metadata_lookup.specs.Hosts.{Seeks, brokers_of, of_host};
 use body_reading::versioned::{Front, front_of};
 use metadata_response::body::Walked;
 use metadata_response::brokers::{BrokerRow, broker_row};
-use metadata_response::naming::with_name;
 use metadata_response::reading::measure;
-use names::Named;
-use primitives::version_of;
+use primitives::{Refusal, version_of};
 
 // The part of the message that is the host, no broker with that node, or why the message is refused.
 #[derive(Drop)]
 pub enum Host {
     Found { start: usize, len: usize },
     Unknown,
-    Refused(Named),
+    Refused(Refusal),
 }
 
-// The first of `count` brokers with that node. No broker is refused here: its message would have been before.
+// The first of `count` brokers with that node. Brokers that are refused are not met here: their message was refused before.
 fn seek(s: &[u8], p: usize, racked: bool, count: u64, node: u64) -> Host
     ensures { Seeks (many count (row_from [] (broker_shape racked))) s.now p node (of_host result) }
 {
@@ -41,7 +39,9 @@ fn seek(s: &[u8], p: usize, racked: bool, count: u64, node: u64) -> Host
                 place = next;
                 left = left - 1;
             }
-            BrokerRow::Refused(_) => return Host::Unknown,
+            BrokerRow::Refused(e) => {
+                return Host::Refused(e);
+            }
         }
     }
     Host::Unknown
@@ -57,7 +57,7 @@ fn host_in(s: &[u8], racked: bool, throttled: bool, node: u64) -> Host
             count,
             next,
         } => seek(s, next, racked, count, node),
-        Front::Refused(_) => Host::Unknown,
+        Front::Refused(e) => Host::Refused(e),
     }
 }
 
@@ -75,6 +75,6 @@ pub fn host_of(msg: &[u8], version: i64, node: u64) -> Host
             let v = version_of(version);
             host_in(msg, 1 <= v, 3 <= v, node)
         }
-        Walked::Refused(e) => Host::Refused(with_name(e, msg, version_of(version))),
+        Walked::Refused(e) => Host::Refused(e),
     }
 }

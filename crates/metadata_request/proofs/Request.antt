@@ -11,7 +11,7 @@ use lib.IntN.{ℤ}
 use lib.ListN.{get_or, length}
 use borrow.Author.Tests.{eq-eqb, ne_eqb}
 use borrow.Rule.Slice.PartMut.{mid_of, put_mid}
-use Rattle.layout.specs.Answers.{Answer, shape, store_answer, write_alone}
+use Rattle.layout.specs.Answers.{Answer, shape, write_alone, write_answer}
 use Rattle.layout.specs.Messages.Metadata.{name_rows, request, request_rows}
 use Rattle.layout.specs.Primitives.{fixed, flag_bytes, kept, length_bytes, minus, null_bytes, w32}
 use Rattle.layout.specs.Rows.{at, end, stands, standing}
@@ -40,7 +40,7 @@ use Rattle.metadata_request.specs.Answers.{of_creation}
 use Rattle.metadata_request.specs.declared.Creation.{Creation}
 use Rattle.metadata_request.specs.Shapes.{creation_field, creation_shape, name_shape, request_shape, topics_shape}
 
-pub is_shape : (v : ℕ) → v ≤ 4 → shape request v ≡ request_shape (leb 4 v)
+is_shape : (v : ℕ) → v ≤ 4 → shape request v ≡ request_shape (leb 4 v)
 unfolding shape at stands standing request_rows name_rows
 is_shape = up_to_four (λ v. shape request v ≡ request_shape (leb 4 v)) refl refl refl refl refl
 
@@ -64,7 +64,7 @@ module _ (size c : ℕ) (topics : List ℕ) where
   unfolding kind_of kind_in arrays row_width width good_row good_cells good_span asked ranged
   is_good k m = good_one size (request_shape false) name_shape 2 0 (count c) (good_count true c) (c ∷ k ∷ m ∷ []) topics refl refl (rw (always (eqb k 0)) (and-true (good_count true c))) (add-zero (count c)) (λ r. and-true _) (λ r. refl)
 
-  abbrev pub judged : Bool
+  abbrev judged : Bool
   judged = good size 1 (request_shape false) ((c ∷ 2 ∷ 1 ∷ []) ∷ topics ∷ [])
 
   pub other_count : {k : ℕ} → k ≡ count c → k ≢ length topics / 2 → false ≡ judged
@@ -73,7 +73,7 @@ module _ (size c : ℕ) (topics : List ℕ) where
   pub same_count : {k : ℕ} → k ≡ count c → k ≡ length topics / 2 → length topics < 2 ^ 64 → (b : Bool) → b ≡ all_ranged 2 0 size topics → b ≡ judged
   same_count e h l b i = rows_same c (length topics / 2) (all_ranged 2 0 size topics) e h (omega arith) b i ∙ sym (is_good 2 1)
 
-  pub good_rows : judged ≡ true → count c ≡ length topics / 2
+  good_rows : judged ≡ true → count c ≡ length topics / 2
   good_rows g = of_eq (count c) (length topics / 2) (both (all_ranged 2 0 size topics) _ (both (good_count true c) _ (sym (is_good 2 1) ∙ g)).1).1
 
 -- ---- 11 and 7
@@ -89,7 +89,7 @@ creation_clean lent cs true = refl
 creation_clean lent cs false = refl
 
 module _ (lent : List ℕ) (c : ℕ) (topics : List ℕ) where
-  abbrev pub refusal : ℕ
+  abbrev refusal : ℕ
   refusal = refusal_of lent 1 (request_shape false) (request_shape false) ((c ∷ 2 ∷ 1 ∷ []) ∷ topics ∷ [])
 
   fault_is : (f : Bool) (k m : ℕ) → fault_at lent (request_shape f) 0 ((c ∷ k ∷ m ∷ []) ∷ topics ∷ []) ≡ first_of (row_fault lent name_shape) (chunks (count c) 2 topics)
@@ -180,7 +180,7 @@ unfolding refusal_of
 row_refusal lent c topics f k m = λ t. cond ((is_good (length lent) c topics k m ∙ sym (is_good (length lent) c topics 2 1)) t) ((fault_is lent c topics f k m ∙ sym (fault_is lent c topics false 2 1)) t) 13
 
 pub request_written : (lent : List ℕ) (c : ℕ) (topics out : List ℕ) (v : ℕ) → v ≤ 4 → (q : Creation) (z : ℤ) → v ≡ version_of z → (flag : Bool) → flag ≡ flag_of q → (r : Answer × List ℕ) →
-    r ≡ write_alone (refusal lent c topics) (bytes_at lent (request_shape (leb 4 v)) 0 ((c ∷ 2 ∷ cond flag 1 0 ∷ []) ∷ topics ∷ [])) out → r ≡ store_answer request z lent ((c ∷ of_creation q) ∷ topics ∷ []) out
+    r ≡ write_alone (refusal lent c topics) (bytes_at lent (request_shape (leb 4 v)) 0 ((c ∷ 2 ∷ cond flag 1 0 ∷ []) ∷ topics ∷ [])) out → r ≡ write_answer request z lent ((c ∷ of_creation q) ∷ topics ∷ []) out
 request_written lent c topics out v h q z e flag j r w =
     called request z v e h (omega arith) lent ((c ∷ of_creation q) ∷ topics ∷ []) out r _ _ w (rw (is_shape v h, is_shape 0 (omega arith)) (refusals q))
     (λ g. rw (is_shape v h) (request_bytes lent c topics (leb 4 v) (of_creation q) ∙ ap (λ (x : List ℕ). bytes_at lent (topics_shape end) 0 ((c ∷ []) ∷ topics ∷ []) ++ x) (row_bytes_lem (leb 4 v) q ∙ ap (λ (b : Bool). row_bytes [] (creation_shape (leb 4 v)) (2 ∷ cond b 1 0 ∷ [])) (sym j)) ∙ sym (request_bytes lent c topics (leb 4 v) (2 ∷ cond flag 1 0 ∷ []))))

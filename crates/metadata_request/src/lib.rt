@@ -2,7 +2,6 @@
 // Numbers are cells, as in the tables: 64 bits, two's complement.
 
 mod judge;
-mod naming;
 mod writing;
 
 pub use crate::writing::write;

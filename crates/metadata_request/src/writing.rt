@@ -9,15 +9,12 @@ ghost use Rattle.layout.specs.Tables.{rows_of};
 ghost use Rattle.primitives_put.specs.Step.{Capped};
 ghost use Rattle.body_writing.specs.Writes.{bytes_at, counted_bytes, refusal_of, row_bytes, rows_bytes};
 ghost use Rattle.primitives_put.specs.Answers.{replied};
-ghost use Rattle.names.specs.Answers.{body_replied};
 ghost use Rattle.metadata_request.specs.Answers.{of_creation, of_request};
 ghost use Rattle.metadata_request.specs.Shapes.{creation_field, creation_shape, name_shape, request_shape, topics_shape};
 
 use crate::judge::refusal;
-use crate::naming::with_name;
 use crate::{Creation, RequestBody};
 use body_writing::ranges::part;
-use names::{BodyWritten, METADATA_REQUEST, without_field};
 use primitives::{MOST, NO_VERSION, TOO_LONG, at, no_room, version_of};
 use primitives_put::{Form, Written};
 
@@ -136,17 +133,14 @@ pub fn write(
     lent: &[u8],
     body: RequestBody,
     topics: &[u64],
-) -> BodyWritten
-    ensures { body_replied result out.new ≡ write_answer Meta.request version lent.now (of_request body ∷ topics.now ∷ []) out.old }
+) -> Written
+    ensures { replied result out.new ≡ write_answer Meta.request version lent.now (of_request body ∷ topics.now ∷ []) out.old }
 {
     let v = version_of(version);
     if 4 < v {
-        return BodyWritten::Refused(without_field(at(NO_VERSION, 0), METADATA_REQUEST));
+        return Written::Refused(at(NO_VERSION, 0));
     }
     let creation = body.creation;
     let flag = is_allowed(creation);
-    match written(out, 4 <= v, lent, body.topics, flag, topics) {
-        Written::Wrote(n) => BodyWritten::Wrote(n),
-        Written::Refused(e) => BodyWritten::Refused(with_name(e, lent, topics)),
-    }
+    written(out, 4 <= v, lent, body.topics, flag, topics)
 }

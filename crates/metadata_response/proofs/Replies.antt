@@ -3,14 +3,12 @@ use mathlib.Core.Bool.{false, true}
 use mathlib.Core.List.{List, [], ◌∷◌}
 use mathlib.Core.Path.{◌∙◌, ◌≡◌, ap, refl, sym}
 use Prim.Native.Nat.{◌/◌, ◌<◌, ◌≤◌, ℕ}
-use native.Mathlib.Omega.{arith}
 use lib.IntN.{pos, ℤ}
 use lib.ListN.{length}
-use Rattle.layout.specs.Reading.{Refusal, Res, naming, no_room, nowhere, ok}
+use Rattle.layout.specs.Reading.{Refusal, Res, no_room, ok}
 use Rattle.layout.specs.Rows.{Shape, at, standing, stands}
 use Rattle.layout.specs.Tables.{Tables, all, arrays, from, kind_in, kind_of, row_width, width}
-use Rattle.layout.specs.Names.{name_at}
-use Rattle.layout.specs.Answers.{accepted, none_yet, prefix_read, refused, seen, shape, widths}
+use Rattle.layout.specs.Answers.{accepted, prefix_read, refused, seen, shape, widths}
 use Rattle.layout.specs.Messages.Metadata as Meta
 use Rattle.layout.proofs.Local.{not_ok}
 use Rattle.layout.proofs.Proper.{metadata_response_lem}
@@ -23,7 +21,6 @@ use Rattle.body_reading.proofs.Bound.{lean, slim, taken}
 use Rattle.body_reading.proofs.Close.{slices, tabs}
 use Rattle.body_reading.proofs.Metered.{is_known, measured_no, measured_took, metered_fits, metered_no, metered_short}
 use Rattle.body_reading.proofs.Reply.{cells_here, cells_next, short_here, short_next, short_none, up_to_four}
-use Rattle.names.proofs.Replies.{read_named, read_short, read_took}
 use Rattle.metadata_response.specs.Brokers.{broker_shape}
 use Rattle.metadata_response.specs.TopicShapes.{node_shape, partition_shape, topic_shape}
 use Rattle.metadata_response.specs.declared.marks.Marks.{Marks}
@@ -99,10 +96,9 @@ module _ (z : ℤ) (s bs ts ps rs is : List ℕ) (r : Walked) (h : of_measure r 
   abbrev olds : Tables
   olds = bs ∷ ts ∷ ps ∷ rs ∷ is ∷ []
 
-  pub reply_no : (e : Code.Refusal) → r ≡ Walked.Refused e → (v : ℕ) → v ≡ version_of z → (c : Refusal) → c ≡ name_at 4 (body_shape v) none_yet 0 s (of_refusal e) → (refused c, olds) ≡ prefix_read Meta.response z olds s
+  pub reply_no : (c : Code.Refusal) → r ≡ Walked.Refused c → (refused (of_refusal c), olds) ≡ prefix_read Meta.response z olds s
   unfolding prefix_read
-  reply_no e d v i c g =
-      read_named Meta.response z s v i (body_shape v) (shape_is v) (omega arith) false olds olds c (of_refusal e) (metered_no Meta.response metadata_response_lem is_slim z s (of_refusal e) (ap of_measure (sym d) ∙ h) olds) g
+  reply_no c d = metered_no Meta.response metadata_response_lem is_slim z s (of_refusal c) (ap of_measure (sym d) ∙ h) olds
 
   module _ (x : ResponseBody) (n b : ℕ) (m : Marks) (d : r ≡ Walked.Took x n b m) (v : ℕ) (e : v ≡ version_of z) (o : Room) (g : of_room o ≡ short (widths Meta.response) (sizes b m) (lengths olds)) where
     is_metered : ok (of_response x, sizes b m) n ≡ metered (seen false Meta.response z s)
@@ -111,17 +107,16 @@ module _ (z : ℤ) (s bs ts ps rs is : List ℕ) (r : Walked) (h : of_measure r 
     number_of : (k : ℕ) → z ≡ pos k → v ≡ k
     number_of k i = e ∙ ap version_of i
 
-    pub reply_short : (k : ℕ) → o ≡ Room.Needs k → (a : Refusal) → a ≡ no_room k → (c : Refusal) → c ≡ naming 4 nowhere nowhere a → (refused c, olds) ≡ prefix_read Meta.response z olds s
+    pub reply_short : (k : ℕ) → o ≡ Room.Needs k → (c : Refusal) → c ≡ no_room k → (refused c, olds) ≡ prefix_read Meta.response z olds s
     unfolding prefix_read
-    reply_short k i a j c f = read_short false Meta.response z olds olds s k c a j (metered_short Meta.response metadata_response_lem is_slim z s (of_response x) (sizes b m) n is_metered olds refl v number_of k (sym g ∙ ap of_room i) a j) f
+    reply_short k i c j = metered_short Meta.response metadata_response_lem is_slim z s (of_response x) (sizes b m) n is_metered olds refl v number_of k (sym g ∙ ap of_room i) c j
 
     pub reply_took : o ≡ Room.Enough → (bs' ts' ps' rs' is' : List ℕ) (w : Walked) → of_walked bs' ts' ps' rs' is' w ≡ walked v s bs ts ps rs is → (accepted (of_response x) n, bs' ∷ ts' ∷ ps' ∷ rs' ∷ is' ∷ []) ≡ prefix_read Meta.response z olds s
     unfolding prefix_read
     reply_took i bs' ts' ps' rs' is' w j =
         let k = is_known Meta.response metadata_response_lem is_slim z s (of_response x) (sizes b m) n is_metered v number_of in
-        read_took false Meta.response z olds (bs' ∷ ts' ∷ ps' ∷ rs' ∷ is' ∷ []) s (of_response x) n
-        (metered_fits Meta.response metadata_response_lem is_slim z s (of_response x) (sizes b m) n is_metered olds refl v number_of (sym g ∙ ap of_room i) (of_walked bs' ts' ps' rs' is' w) (j ∙ as_shape v s bs ts ps rs is k.1.0) (bs' ∷ ts' ∷ ps' ∷ rs' ∷ is' ∷ [])
-        (λ y q f. holds w y q f))
+        metered_fits Meta.response metadata_response_lem is_slim z s (of_response x) (sizes b m) n is_metered olds refl v number_of (sym g ∙ ap of_room i) (of_walked bs' ts' ps' rs' is' w) (j ∙ as_shape v s bs ts ps rs is k.1.0) (bs' ∷ ts' ∷ ps' ∷ rs' ∷ is' ∷ [])
+        (λ y q f. holds w y q f)
       where
         holds : (w : Walked) (y : State) (q : ℕ) → of_walked bs' ts' ps' rs' is' w ≡ ok y q → slices y ≡ bs' ∷ ts' ∷ ps' ∷ rs' ∷ is' ∷ []
         holds (Walked.Took x n b m) y q f = let u : own (of_response x) ∷ tab bs' b ∷ tab ts' m.topics ∷ tab ps' m.partitions ∷ tab rs' m.replicas ∷ tab is' m.synced ∷ [] ≡ y = cc in ap slices (sym u)

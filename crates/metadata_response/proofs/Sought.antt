@@ -1,30 +1,21 @@
--- The layouts of a broker, a partition, a topic and the body by their version, as the walk to a field takes them.
+-- The layouts of a broker, a topic and the body by their version, as the walk to a field takes them.
 use mathlib.Core.Bool.{Bool, false, true}
 use mathlib.Core.List.{List}
-use mathlib.Core.Option.{none}
 use mathlib.Core.Path.{◌∙◌, ◌≡◌, ap, refl, sym}
-use Prim.Native.Nat.{◌+◌, ◌-◌, ◌<◌, ◌≤◌, min, ℕ}
+use Prim.Native.Nat.{◌<◌, ◌≤◌, ℕ}
 use native.Mathlib.Omega.{arith}
 use lib.Dec.{leb}
-use lib.ListN.{length}
-use Rattle.layout.specs.Reading.{Res, bad, give, nowhere, ok}
+use Rattle.layout.specs.Reading.{Res, nowhere}
 use Rattle.layout.specs.Primitives.{empty, fixed, kept, never, w16, w32}
 use Rattle.layout.specs.Rows.{Shape, array, boolean, end, field, number, stands, text}
-use Rattle.layout.specs.Names.{found, seek}
+use Rattle.layout.specs.Names.{seek}
 use Rattle.layout.specs.Read.{read_basic}
 use Rattle.layout.proofs.Tests.{le-false, le-true}
-use Rattle.primitives.specs.Parts.{counted, of_count}
-use Rattle.primitives.specs.declared.Count.{Count}
-use Rattle.primitives.specs.declared.Refusal.{Refusal}
-use Rattle.body_reading.specs.Walk.{item_count, on}
-use Rattle.body_reading.proofs.Chains.{give_took, then_no, then_took}
-use Rattle.names.specs.Walks.{count_up_to, numbers, of_counted}
-use Rattle.names.specs.declared.fields.Counted.{Counted}
-use Rattle.names.proofs.Divided.{number_in, number_past}
+use Rattle.body_reading.specs.Walk.{on}
 use Rattle.metadata_response.specs.Brokers.{broker_shape}
-use Rattle.metadata_response.specs.Seek.{controller_shape, node_arrays, topics_shape}
+use Rattle.metadata_response.specs.Seek.{controller_shape, topics_shape}
 use Rattle.metadata_response.specs.Shapes.{body_shape, tail_shape}
-use Rattle.metadata_response.specs.TopicShapes.{node_shape, partition_shape, topic_shape}
+use Rattle.metadata_response.specs.TopicShapes.{partition_shape, topic_shape}
 
 -- ---- a broker: node, host and port, and from version 1 on a rack
 
@@ -46,47 +37,6 @@ module _ (q row : ℕ) (c s : List ℕ) (p : ℕ) (b : Bool) (z : Res (List ℕ)
       go : (x : Bool) → b ≡ x → z ≡ on (seek q (broker_shape b) row 0 c) s p
       go true e = with_rack e (g (field (text (fixed w16 kept)) end))
       go false e = without_rack e (g end)
-
--- ---- a partition: two bytes, four and four, and its nodes. x: the bytes that are there, up to q
-
-module _ (q row : ℕ) (c s : List ℕ) (p : ℕ) where
-  of_partition : (z : Res (List ℕ)) → z ≡ on (seek q (field (number w16) (field (number w32) (field (number w32) node_arrays))) row 0 c) s p → z ≡ on (seek q partition_shape row 0 c) s p
-  unfolding partition_shape node_shape numbers
-  of_partition z g = g
-
-  module _ (x : ℕ) (e : x ≡ min (q - p) (length s - p)) where
-    pub in_error : x < 2 → bad (found row 0) ≡ on (seek q partition_shape row 0 c) s p
-    in_error h = of_partition _ (number_in q row 0 c s p w16 _ (omega arith))
-
-    pub in_index : 2 ≤ x → x < 6 → bad (found row 1) ≡ on (seek q partition_shape row 0 c) s p
-    in_index g h = of_partition _ (number_past q row 0 c s p w16 _ (omega arith) _ (number_in q row 1 c s (p + 2) w32 _ (omega arith)))
-
-    pub in_leader : 6 ≤ x → x < 10 → bad (found row 2) ≡ on (seek q partition_shape row 0 c) s p
-    in_leader g h = of_partition _ (number_past q row 0 c s p w16 _ (omega arith) _ (number_past q row 1 c s (p + 2) w32 _ (omega arith) _ (number_in q row 2 c s (p + 2 + 4) w32 _ (omega arith))))
-
-    pub after_leader : 10 ≤ x → (z : Res (List ℕ)) → z ≡ on (seek q node_arrays row 3 c) s (p + 10) → z ≡ on (seek q partition_shape row 0 c) s p
-    after_leader h z g =
-        let a : p + 10 ≡ p + 2 + 4 + 4 = omega arith in
-        of_partition z
-        (number_past q row 0 c s p w16 _ (omega arith) _
-        (number_past q row 1 c s (p + 2) w32 _ (omega arith) _
-        (number_past q row 2 c s (p + 2 + 4) w32 _ (omega arith) _ (g ∙ ap (λ (j : ℕ). on (seek q node_arrays row 3 c) s j) a))))
-
--- the number of nodes, from what is read with its null
-module _ (q : ℕ) (s : List ℕ) (p : ℕ) (r : Count) (h : of_count r ≡ on (counted (fixed w32 kept)) s p) where
-  pub nodes_some : (k n : ℕ) → r ≡ Count.Took k n → (x : Counted) → of_counted x ≡ count_up_to q (ok k n) → of_counted x ≡ count_up_to q (on (item_count false (fixed w32 kept)) s p)
-  unfolding item_count counted
-  nodes_some k n e x g =
-      let m : k ≡ k + 1 - 1 = omega arith in
-      g ∙ ap (count_up_to q) (then_took (counted (fixed w32 kept)) (λ j. give (j - 1)) s p (sym (ap of_count e) ∙ h) (ap (λ (j : ℕ). ok j n) m ∙ give_took (k + 1 - 1) s n))
-
-  pub nodes_null : (n : ℕ) → r ≡ Count.Null n → (x : Counted) → of_counted x ≡ count_up_to q (ok 0 n) → of_counted x ≡ count_up_to q (on (item_count false (fixed w32 kept)) s p)
-  unfolding item_count counted
-  nodes_null n e x g = g ∙ ap (count_up_to q) (then_took (counted (fixed w32 kept)) (λ j. give (j - 1)) s p (sym (ap of_count e) ∙ h) (give_took 0 s n))
-
-  pub nodes_refused : (e : Refusal) → r ≡ Count.Refused e → none ≡ count_up_to q (on (item_count false (fixed w32 kept)) s p)
-  unfolding item_count counted
-  nodes_refused e d = ap (count_up_to q) (then_no (counted (fixed w32 kept)) (λ j. give (j - 1)) s p (sym (ap of_count d) ∙ h))
 
 -- ---- a topic: error and name, from version 1 on whether it is internal, and the partitions
 

@@ -7,7 +7,6 @@ use Rattle.layout.specs.Reading.{Res, bad, ok}
 use Rattle.layout.specs.Tables.{Tables}
 use Rattle.layout.specs.Answers.{Answer, accepted, refused}
 use Rattle.primitives.proofs.Unique.{refusal_of, unique}
-use Rattle.names.proofs.Unique.{named_of}
 use Rattle.primitives.specs.declared.Field.{Field}
 use Rattle.body_reading.specs.Cells.{field_cells, versioned_cells}
 use Rattle.body_reading.specs.declared.versioned.Versioned.{Versioned}
@@ -45,7 +44,7 @@ body_back_lem (Versioned.Present i) b (Field.Present a k) (Versioned.Present j) 
 
 abbrev reply_of : Answer → ResponseReply
 reply_of (accepted cs n) = ResponseReply.Took (body_of cs) n
-reply_of (refused e) = ResponseReply.Refused (named_of e)
+reply_of (refused e) = ResponseReply.Refused (refusal_of e)
 
 -- the tables of brokers, topics, partitions, replicas and in-sync replicas
 pub record Five : Type 0 where

@@ -4,7 +4,6 @@ use Rattle.std.proofs.Math.Option.{Option, none, some}
 use Rattle.layout.specs.Answers.{Answer, accepted, refused}
 use Rattle.layout.specs.Reading.{Res, bad, ok}
 use Rattle.primitives.specs.Answers.{of_refusal}
-use Rattle.names.specs.Answers.{of_named}
 use Rattle.metadata_response.specs.declared.marks.Marks.{Marks}
 use Rattle.body_reading.specs.Cells.{field_cells, versioned_cells}
 use Rattle.metadata_response.specs.declared.ResponseBody.{ResponseBody}
@@ -18,7 +17,7 @@ of_response x = versioned_cells x.throttle ++ (x.brokers ∷ (field_cells x.clus
 
 abbrev pub of_response_reply : ResponseReply → Answer
 of_response_reply (ResponseReply.Took x n) = accepted (of_response x) n
-of_response_reply (ResponseReply.Refused e) = refused (of_named e)
+of_response_reply (ResponseReply.Refused e) = refused (of_refusal e)
 
 -- the cells of each table
 abbrev pub sizes : ℕ → Marks → List ℕ

@@ -1,13 +1,12 @@
 // The Metadata response, versions 0 to 4, read into five tables: brokers, and topics with their partitions, and these with their replicas.
 // Numbers are cells, as in the tables: 64 bits, two's complement.
 use body_reading::versioned::Versioned;
-use names::Named;
-use primitives::Field;
+use primitives::{Field, Refusal};
 
 pub mod body;
 pub mod brokers;
 pub mod marks;
-pub mod naming;
+mod naming;
 mod nodes;
 mod numbers;
 mod partitions;
@@ -30,5 +29,5 @@ pub struct ResponseBody {
 #[derive(Drop)]
 pub enum ResponseReply {
     Took { body: ResponseBody, used: usize },
-    Refused(Named),
+    Refused(Refusal),
 }

@@ -1,27 +1,23 @@
 // The field of a Metadata response in which place q lies: its brokers, its topics, their partitions, and the nodes of these.
-ghost use Rattle.std.specs.Prelude.{false, true, ◌≡◌, ◌<◌, leb};
+ghost use Rattle.std.specs.Prelude.{true, ◌≡◌, ◌<◌, leb};
 ghost use Rattle.layout.specs.Answers.{none_yet};
 ghost use Rattle.layout.specs.Names.{name_at, seek};
 ghost use Rattle.layout.specs.Primitives.{empty, fixed, kept, w32};
 ghost use Rattle.layout.specs.Reading.{loop, nowhere};
 ghost use Rattle.layout.specs.Rows.{array, end};
 ghost use Rattle.primitives.specs.Answers.{of_refusal};
-ghost use Rattle.body_reading.specs.Walk.{item_count, on};
-ghost use Rattle.names.specs.Answers.{of_named};
-ghost use Rattle.names.specs.Walks.{Flat, count_up_to, element, of_counted, of_sought};
+ghost use Rattle.body_reading.specs.Walk.{on};
+ghost use Rattle.names.specs.Walks.{Flat, element, of_named, of_sought};
 ghost use Rattle.metadata_response.specs.Brokers.{broker_shape};
-ghost use Rattle.metadata_response.specs.Seek.{controller_shape, node_arrays, topics_shape};
+ghost use Rattle.metadata_response.specs.Seek.{controller_shape, topics_shape};
 ghost use Rattle.metadata_response.specs.Shapes.{body_shape, tail_shape};
-ghost use Rattle.metadata_response.specs.TopicShapes.{partition_shape, topic_shape};
+ghost use Rattle.metadata_response.specs.TopicShapes.{node_shape, partition_shape, topic_shape};
 
-use crate::numbers::count_at;
 use body_reading::places::Taken;
-use names::fields::{
-    Counted, Passed, after_count, count, flag, int16, int32, nullable_string, string,
-};
-use names::runs::{Element, bytes_up_to};
-use names::{METADATA_RESPONSE, Named, Sought, begin, is_fieldless, named_by, runs, without_field};
-use primitives::{Count, MINUS_ONE, Number, Refusal};
+use names::fields::{Counted, Passed, count, flag, int16, int32, nullable_string, string};
+use names::runs::Element;
+use names::{Named, Sought, begin, is_fieldless, named_by, runs, without_field};
+use primitives::{MINUS_ONE, Refusal};
 
 const BROKERS: usize = 1;
 
@@ -77,22 +73,23 @@ fn brokers(s: &[u8], p: usize, q: usize, racked: bool, count: u64, begun: &mut [
 
 // ---- partitions
 
-// The number of nodes; null is none.
-fn node_count(s: &[u8], p: usize, q: usize) -> Counted
-    ensures { of_counted result ≡ count_up_to q (on (item_count false (fixed w32 kept)) s.now p) }
+// The partition at p, row `row` of its table.
+fn partition(s: &[u8], p: usize, q: usize, row: u64, begun: &mut [u64]) -> Sought
+    ensures { of_sought begun.new result ≡ on (seek q partition_shape row 0 begun.old) s.now p }
 {
-    match count_at(s, p) {
-        Count::Took { count, used } => after_count(Number::Took { value: count, used }, q),
-        Count::Null { used } => after_count(Number::Took { value: 0, used }, q),
-        Count::Refused(_) => Counted::Stopped,
-    }
-}
-
-// Replicas and in-sync replicas of the partition in row `row`.
-fn node_arrays(s: &[u8], p: usize, q: usize, row: u64, begun: &mut [u64]) -> Sought
-    ensures { of_sought begun.new result ≡ on (seek q node_arrays row 3 begun.old) s.now p }
-{
-    let replicas = match node_count(s, p, q) {
+    let p = match int16(s, p, q) {
+        Passed::After(next) => next,
+        Passed::Stopped => return Sought::Found { row, field: 0 },
+    };
+    let p = match int32(s, p, q) {
+        Passed::After(next) => next,
+        Passed::Stopped => return Sought::Found { row, field: 1 },
+    };
+    let p = match int32(s, p, q) {
+        Passed::After(next) => next,
+        Passed::Stopped => return Sought::Found { row, field: 2 },
+    };
+    let replicas = match count(s, p, q, false) {
         Counted::After { count, next } => Taken { value: count, next },
         Counted::Stopped => return Sought::Found { row, field: 3 },
     };
@@ -108,7 +105,7 @@ fn node_arrays(s: &[u8], p: usize, q: usize, row: u64, begun: &mut [u64]) -> Sou
         Sought::Past(next) => next,
         Sought::Found { row: r, field: f } => return Sought::Found { row: r, field: f },
     };
-    match node_count(s, p, q) {
+    match count(s, p, q, false) {
         Counted::After { count, next } => runs::elements(
             s,
             next,
@@ -120,23 +117,6 @@ fn node_arrays(s: &[u8], p: usize, q: usize, row: u64, begun: &mut [u64]) -> Sou
         ),
         Counted::Stopped => Sought::Found { row, field: 4 },
     }
-}
-
-// The partition at p, row `row` of its table. Its numbers have two, four and four bytes.
-fn partition(s: &[u8], p: usize, q: usize, row: u64, begun: &mut [u64]) -> Sought
-    ensures { of_sought begun.new result ≡ on (seek q partition_shape row 0 begun.old) s.now p }
-{
-    let there = bytes_up_to(s, p, q);
-    if there < 2 {
-        return Sought::Found { row, field: 0 };
-    }
-    if there < 6 {
-        return Sought::Found { row, field: 1 };
-    }
-    if there < 10 {
-        return Sought::Found { row, field: 2 };
-    }
-    node_arrays(s, p + 10, q, row, begun)
 }
 
 fn partitions(s: &[u8], p: usize, q: usize, count: u64, begun: &mut [u64]) -> Sought
@@ -296,12 +276,12 @@ fn body(s: &[u8], q: usize, v: u64, begun: &mut [u64]) -> Sought
 }
 
 // The refusal e of a response at version v, which there is, with its name.
-pub fn with_name(e: Refusal, msg: &[u8], v: u64) -> Named
+pub(crate) fn with_name(e: Refusal, msg: &[u8], v: u64) -> Named
     ensures { of_named result ≡ name_at 4 (body_shape v) none_yet 0 msg.now (of_refusal e) }
 {
     if is_fieldless(e.number) {
-        return without_field(e, METADATA_RESPONSE);
+        return without_field(e, 4);
     }
     let mut begun = [0u64; 8];
-    named_by(e, METADATA_RESPONSE, body(msg, e.place, v, &mut begun))
+    named_by(e, 4, body(msg, e.place, v, &mut begun))
 }

@@ -1,5 +1,5 @@
 // Arrays of nodes: replicas, and in-sync replicas. A null one stays null: its count is the cell of -1.
-ghost use Rattle.std.specs.Prelude.{◌≡◌, false, ◌≤◌};
+ghost use Rattle.std.specs.Prelude.{◌≡◌, false, ◌≤◌, min};
 ghost use Rattle.layout.specs.Reading.{loop};
 ghost use Rattle.body_reading.specs.Store.{limit};
 ghost use Rattle.body_reading.specs.Walk.{Runs, beside, in_place, walk};
@@ -8,12 +8,21 @@ ghost use Rattle.metadata_response.specs.TopicShapes.{node_shape, nodes_shape};
 ghost use Rattle.body_reading.specs.Walked.{beside_is, filled_is};
 
 use crate::numbers::{count_at, int32_there};
-use body_reading::tables::{LIMIT, less, smaller};
+use body_reading::tables::{LIMIT, less};
 use body_reading::walks::{Counted, Filled};
 use primitives::{BYTES_END, Count, at};
 
 // The cell of -1: null.
 const NULL: u64 = 18446744073709551615;
+
+fn smaller(a: usize, b: usize) -> usize
+    ensures { result ≡ min a b }
+{
+    if a <= b {
+        return a;
+    }
+    b
+}
 
 // The mark behind n cells, room or not.
 fn passed(mark: usize, n: usize) -> usize

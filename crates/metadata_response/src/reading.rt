@@ -8,9 +8,7 @@ ghost use Rattle.metadata_response.specs.Answers.{of_measure, of_response_reply,
 use crate::ResponseReply;
 use crate::body::{Walked, body_at};
 use crate::marks::Marks;
-use crate::naming::with_name;
 use body_reading::walks::{Admitted, admit};
-use names::{METADATA_RESPONSE, without_field};
 use primitives::{no_room, version_of};
 
 // Whether all tables are large enough, or else the rows that the first too small needs.
@@ -105,11 +103,8 @@ pub fn read(
                 body_at(msg, v, brokers, topics, partitions, replicas, synced);
                 ResponseReply::Took { body, used: next }
             }
-            Room::Needs(rows) => ResponseReply::Refused(without_field(
-                no_room(rows),
-                METADATA_RESPONSE,
-            )),
+            Room::Needs(rows) => ResponseReply::Refused(no_room(rows)),
         },
-        Walked::Refused(e) => ResponseReply::Refused(with_name(e, msg, version_of(version))),
+        Walked::Refused(e) => ResponseReply::Refused(e),
     }
 }

@@ -1,5 +1,5 @@
 -- The numbers that are of no field, one after the other.
-use Rattle.std.proofs.Common.{◌≡◌, ℕ, true, eqb, ◌≢◌, sym, refl, ap, ◌∙◌, ne_eqb}
+use Rattle.std.proofs.Common.{◌≡◌, ℕ, Bool, true, false, ◌||◌, eqb, ◌≢◌, sym, refl, ap, ◌∙◌, ne_eqb}
 use Rattle.layout.specs.Names.{fieldless}
 
 listed : (fieldless 1 ≡ true) × (fieldless 2 ≡ true) × (fieldless 9 ≡ true) × (fieldless 10 ≡ true) × (fieldless 13 ≡ true)

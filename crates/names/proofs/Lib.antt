@@ -8,9 +8,3 @@ pub mod Ways
 pub mod Given
 -- elements of numbers of one width
 pub mod Divided
--- rows that are begun at once
-pub mod AtOnce
--- the reply of a call, with the name of its refusal
-pub mod Replies
--- the answers determine what they say
-pub mod Unique

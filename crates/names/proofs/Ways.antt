@@ -1,20 +1,20 @@
 -- The walk to a field, step by step: at a field, at an array, and over its elements.
-use Rattle.std.proofs.Common.{◌≡◌, ℕ, zero, suc, ◌+◌, ◌-◌, ◌%◌, ◌^◌, ◌<◌, ◌≤◌, Bool, true, false, ltb, List, [], ◌∷◌, length, get_or, drop, set, sym, refl, ap, ◌∙◌, subst, arith}
+use Rattle.std.proofs.Common.{◌≡◌, ℕ, zero, suc, ◌+◌, ◌-◌, ◌%◌, ◌^◌, ◌<◌, ◌≤◌, Bool, true, false, cond, eqb, ltb, List, [], ◌∷◌, length, get_or, drop, set, sym, refl, ap, ◌∙◌, subst, arith}
 use mathlib.Core.Option.{Option, none, some}
 use lib.ListN.{get_or-eq_default}
-use Rattle.layout.specs.Reading.{Reader, Refusal, Res, bad, give, loop, ok, then}
-use Rattle.layout.specs.Primitives.{Size, admits, checked, length_of, plain, refusal, unsigned}
+use Rattle.layout.specs.Reading.{Reader, Refusal, Res, bad, give, loop, more, ok, pick, single, then}
+use Rattle.layout.specs.Primitives.{Size, admits, checked, empty, fixed, kept, length_of, plain, refusal, unsigned, w32}
 use Rattle.layout.specs.Rows.{Basic, BasicValue, Shape, array, end, field}
 use Rattle.layout.specs.Read.{by_place, read_basic}
 use Rattle.layout.specs.Tables.{Span}
-use Rattle.layout.specs.Names.{begun, found, seek, stop}
+use Rattle.layout.specs.Names.{begun, found, halted, seek, stop}
 use Rattle.layout.proofs.Steps.{by_result, not_ok}
 use Rattle.layout.proofs.Tests.{by_test, lt-false, lt-true, of_ge, of_lt}
-use Rattle.body_reading.specs.Tagged.{tag_shape, tags_if}
+use Rattle.body_reading.specs.Moved.{array_items}
 use Rattle.body_reading.specs.Walk.{item_count, on}
-use Rattle.body_reading.proofs.Chains.{give_took, loop_done, loop_next, loop_no, same_end, then_no, then_took}
+use Rattle.body_reading.proofs.Chains.{both, give_took, loop_done, loop_next, loop_no, same_end, same_value, then_no, then_took}
 use Rattle.body_reading.proofs.DataAt.{length_no, length_took}
-use Rattle.names.specs.Walks.{Flat, count_up_to, element, ends, of_counted, of_passed, of_sought}
+use Rattle.names.specs.Walks.{Flat, count_up_to, element, ends, extent, of_counted, of_passed, of_sought, up_to}
 use Rattle.names.specs.declared.Sought.{Sought}
 use Rattle.names.specs.declared.fields.Counted.{Counted}
 use Rattle.names.specs.declared.fields.Passed.{Passed}
@@ -156,16 +156,16 @@ unfolding item_count
 tag_count s p (ok n q) d = let m : n + 1 - 1 ≡ n = omega arith in then_took (checked false 6 (length_of unsigned plain)) _ s p (length_took s p n q d) (subst (λ (j : ℕ). ok n q ≡ on (give j) s q) (sym m) (give_took n s q))
 tag_count s p (bad e) d = then_no (checked false 6 (length_of unsigned plain)) _ s p (length_no s p e d)
 
--- ---- tagged fields, where the version has them
+-- ---- an array that has a null of its own is counted as any other
 
-module _ (q row f : ℕ) (c s : List ℕ) (p : ℕ) (b : Bool) (t : ℕ) where
-  pub tags_lacking : b ≡ false → ok c p ≡ on (seek q (tags_if b t) row f c) s p
-  unfolding tags_if seek
-  tags_lacking e = give_took c s p ∙ ap (λ (x : Bool). on (seek q (tags_if x t) row f c) s p) (sym e)
+-- where null is taken, the number that would refuse it has no part
+any_number : (d e : ℕ) (len : Reader ℕ) (q : ℕ) (t : List ℕ) → checked true d len q t ≡ checked true e len q t
+unfolding checked single then pick
+any_number d e len q t = by_result (len q t) (λ n m i. by_test (eqb n 0) (λ b. rw (i, b)) (λ b. rw (i, b))) (λ b i. rw i)
 
-  pub tags_there : b ≡ true → (z : Res (List ℕ)) → z ≡ on (seek q (array plain t tag_shape end) row f c) s p → z ≡ on (seek q (tags_if b t) row f c) s p
-  unfolding tags_if
-  tags_there e z g = g ∙ ap (λ (x : Bool). on (seek q (tags_if x t) row f c) s p) (sym e)
+pub null_is_none : (s : List ℕ) (p : ℕ) → on (array_items false false) s p ≡ on (item_count false (fixed w32 kept)) s p
+unfolding array_items item_count checked single length_of
+null_is_none s p = λ i. on (then (λ q t. any_number (refusal (fixed w32 empty)) (refusal (fixed w32 kept)) (length_of unsigned (fixed w32 empty)) q t i) (λ n. give (n - 1))) s p
 
 -- the next position, as code adds it
 pub next_field : (q : ℕ) (l : Shape) (row f : ℕ) (c s : List ℕ) (p : ℕ) (z : Res (List ℕ)) → z ≡ on (seek q l row (f + 1) c) s p → z ≡ on (seek q l row (suc f) c) s p

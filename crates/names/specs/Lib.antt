@@ -1,4 +1,2 @@
--- what the answers of calls say
-pub mod Answers
 -- what the walk over the rows of a layout answers
 pub mod Walks

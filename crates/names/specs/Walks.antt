@@ -6,13 +6,12 @@ use Rattle.layout.specs.Read.{by_place, read_basic}
 use Rattle.layout.specs.Primitives.{Width, w16, w32, w64}
 use Rattle.layout.specs.Rows.{Basic, Shape, end, field, number}
 use Rattle.layout.specs.Names.{begun, found, seek}
-use Rattle.body_reading.specs.Tagged.{tag_shape}
 use Rattle.body_reading.specs.Walk.{on}
+use Rattle.names.specs.declared.Named.{Named}
 use Rattle.names.specs.declared.Sought.{Sought}
 use Rattle.names.specs.declared.fields.Counted.{Counted}
 use Rattle.names.specs.declared.fields.Passed.{Passed}
 use Rattle.names.specs.declared.runs.Element.{Element}
-use Rattle.names.specs.declared.tags.InTag.{InTag}
 
 -- the place after a field, if it is not refused
 abbrev pub extent : {A : Type 0} → Res A → Option ℕ
@@ -73,14 +72,6 @@ named_by m e none = naming m nowhere nowhere e
 pub record Flat (q : ℕ) (l : Shape) (row : ℕ) (s : List ℕ) (p : ℕ) (r : Sought) : Type 0 where
   pub law : (c : List ℕ) → of_sought c r ≡ on (seek q l row 0 c) s p
 
--- a tag, whatever its row and whatever rows were begun
-abbrev pub of_tag : ℕ → List ℕ → InTag → Res (List ℕ)
-of_tag row c (InTag.Field f) = bad (found row f)
-of_tag row c (InTag.Past n) = ok c n
-
-pub record InAnyRow (q : ℕ) (s : List ℕ) (p : ℕ) (r : InTag) : Type 0 where
-  pub law : (row : ℕ) (c : List ℕ) → of_tag row c r ≡ on (seek q tag_shape row 0 c) s p
-
 -- k numbers of one width
 unfoldable pub numbers : ℕ → Width → Shape
 numbers zero w = end
@@ -98,3 +89,6 @@ width_of Element.Int16Triple = w16
 
 abbrev pub element_shape : Element → Shape
 element_shape x = numbers (numbers_of x) (width_of x)
+
+abbrev pub of_named : Named → Refusal
+of_named r = record { number = r.number; place = r.place; need = r.need; message = r.message; row = r.row; field = r.field }

@@ -1,11 +1,12 @@
 // One field of a walk to the field in which place q lies: the place after it, where q is not in front of that. Else the walk stops: q lies in the field, or the field is refused.
-ghost use Rattle.std.specs.Prelude.{◌≡◌, false};
+ghost use Rattle.std.specs.Prelude.{◌≡◌, false, cond};
 ghost use Rattle.std.proofs.Math.Option.{some};
 ghost use Rattle.layout.specs.Primitives.{compact, empty, fixed, kept, never, plain, w16, w32, w64};
-ghost use Rattle.layout.specs.Rows.{blob, boolean, items, natural, number, text};
+ghost use Rattle.layout.specs.Rows.{blob, boolean, natural, number, text};
 ghost use Rattle.primitives.specs.Answers.{of_flag, of_number};
 ghost use Rattle.primitives.specs.Parts.{of_nullable, of_part};
-ghost use Rattle.body_reading.specs.Walk.{item_count, on};
+ghost use Rattle.body_reading.specs.Moved.{array_items};
+ghost use Rattle.body_reading.specs.Walk.{on};
 ghost use Rattle.names.specs.Walks.{count_up_to, ends, extent, of_counted, of_passed, up_to};
 
 use body_reading::places::{
@@ -138,13 +139,12 @@ pub fn data(s: &[u8], p: usize, q: usize) -> Passed
 
 // The number of an array's elements; null is none.
 pub fn count(s: &[u8], p: usize, q: usize, compact: bool) -> Counted
-    ensures { of_counted result ≡ count_up_to q (on (item_count false (items compact)) s.now p) }
+    ensures { of_counted result ≡ count_up_to q (on (array_items compact false) s.now p) }
 {
     after_count(items_at(s, p, compact, false), q)
 }
 
-// The same of a number of elements that was read.
-pub fn after_count(n: Number, q: usize) -> Counted
+pub(crate) fn after_count(n: Number, q: usize) -> Counted
     ensures { of_counted result ≡ count_up_to q (of_number n) }
 {
     match n {

@@ -1,25 +1,30 @@
 // Elements that are some numbers of one width each: they are passed over at once, and the number in which a place lies is found by a division.
-ghost use Rattle.std.specs.Prelude.{◌≡◌, ◌-◌, min, length};
+ghost use Rattle.std.specs.Prelude.{◌≡◌, min};
 ghost use Rattle.layout.specs.Primitives.{size};
 ghost use Rattle.layout.specs.Reading.{loop};
 ghost use Rattle.body_reading.specs.Walk.{on};
 ghost use Rattle.names.specs.Walks.{element as walked, element_shape, many_begun, numbers_of, of_sought, width_of};
 
 use crate::{Sought, begin};
-use body_reading::tables::{less, smaller};
+use body_reading::tables::less;
 use std::num::wrapping_add_u64;
 
-// The bytes from p on that are there, up to q.
-pub fn bytes_up_to(s: &[u8], p: usize, q: usize) -> usize
-    ensures { result ≡ min (q - p) (length s.now - p) }
+fn smaller(a: usize, b: usize) -> usize
+    ensures { result ≡ min a b }
 {
-    smaller(less(q, p), less(s.len(), p))
+    if a <= b {
+        return a;
+    }
+    b
 }
 
 // n more rows of table t.
-pub(crate) fn advance(begun: &mut [u64], t: usize, n: u64)
+fn advance(begun: &mut [u64], t: usize, n: u64)
     ensures { begun.new ≡ many_begun n t begun.old }
 {
+    if n == 0 {
+        return;
+    }
     if t < begun.len() {
         begun[t] = wrapping_add_u64(begun[t], n);
     }
@@ -68,7 +73,7 @@ pub fn elements(
 {
     let each = numbers_of(element);
     let width = width_of(element);
-    let i = bytes_up_to(s, p, q) / width;
+    let i = smaller(less(q, p), less(s.len(), p)) / width;
     let rows = (i / each) as u64;
     if rows < count {
         advance(begun, t, rows);

@@ -13,7 +13,7 @@ use mir.Val.{Fits, SFits, of_z, to_z}
 use borrow.Author.Tests.{le-ltb}
 use Rattle.layout.specs.Reading.{Refusal, bad, because}
 use Rattle.layout.specs.Tables.{Tables}
-use Rattle.layout.specs.Answers.{Answer, Message, body_read, made, read_answer, refused, seen, store_answer}
+use Rattle.layout.specs.Answers.{Answer, Message, made, prefix_read, read_answer, refused, whole_read, write_answer}
 use Rattle.primitives.specs.Answers.{is_set, version_of}
 use Rattle.layout.proofs.Calls as Calls
 use Rattle.layout.proofs.Calls.{read_refused, version_above}
@@ -49,22 +49,19 @@ module _ (z : ℤ) (f : SFits w64 z) where
 -- ---- a message's versions
 
 module _ (m : Message) (z : ℤ) (v : ℕ) (e : v ≡ version_of z) where
-  pub unseen : m.last < v → (w : Bool) (s : List ℕ) → seen w m z s ≡ bad (because 1 0)
-  unseen h w s = go z e
-    where
-      go : (z : ℤ) → v ≡ version_of z → seen w m z s ≡ bad (because 1 0)
-      go (pos n) i = version_above w m n s (omega arith)
-      go (negsuc n) i = Calls.version_below w m n s
-
   pub unknown : m.last < v → (w : Bool) (s : List ℕ) (olds : Tables) (c : Refusal) → c ≡ because 1 0 → (refused c, olds) ≡ read_answer w m z olds s
-  unknown h w s olds c d = sym (read_refused m z s olds w c (unseen h w s ∙ ap bad (sym d)))
+  unknown h w s olds c d = go z e
+    where
+      go : (z : ℤ) → v ≡ version_of z → (refused c, olds) ≡ read_answer w m z olds s
+      go (pos n) i = sym (read_refused m (pos n) s olds w c (version_above w m n s (omega arith) ∙ ap bad (sym d)))
+      go (negsuc n) i = sym (read_refused m (negsuc n) s olds w c (Calls.version_below w m n s ∙ ap bad (sym d)))
 
   -- the same of what is written
-  pub unwritten : m.last < v → (lent : List ℕ) (st : Tables) (out : List ℕ) (c : Refusal) → c ≡ because 1 0 → ◌≡◌ {A = Answer × List ℕ} (refused c, out) (store_answer m z lent st out)
-  unfolding store_answer made
+  pub unwritten : m.last < v → (lent : List ℕ) (st : Tables) (out : List ℕ) (c : Refusal) → c ≡ because 1 0 → ◌≡◌ {A = Answer × List ℕ} (refused c, out) (write_answer m z lent st out)
+  unfolding write_answer made
   unwritten h lent st out c d = go z e
     where
-      go : (z : ℤ) → v ≡ version_of z → ◌≡◌ {A = Answer × List ℕ} (refused c, out) (store_answer m z lent st out)
+      go : (z : ℤ) → v ≡ version_of z → ◌≡◌ {A = Answer × List ℕ} (refused c, out) (write_answer m z lent st out)
       go (pos n) i = rw (le-false n m.last (omega arith)) (λ t. (refused (d t), out))
       go (negsuc n) i = λ t. (refused (d t), out)
 
@@ -77,8 +74,17 @@ module _ (m : Message) (z : ℤ) (v : ℕ) (e : v ≡ version_of z) where
 
 -- ---- a version that passed an argument, in the answer of a call
 
-pub read_at : (w : Bool) (m : Message) (z : ℤ) → SFits w64 z → (olds : Tables) (s : List ℕ) (o : Answer × Tables) → o ≡ body_read w m (to_z w64 (of_z w64 z)) olds s → o ≡ body_read w m z olds s
-read_at w m z f olds s o e = e ∙ ap (λ (y : ℤ). body_read w m y olds s) (to_z-of_z f)
+module _ (m : Message) (z : ℤ) (f : SFits w64 z) (olds : Tables) (s : List ℕ) (o : Answer × Tables) where
+  pub prefix_at : o ≡ read_answer false m (to_z w64 (of_z w64 z)) olds s → o ≡ prefix_read m z olds s
+  unfolding prefix_read
+  prefix_at e = e ∙ ap (λ (y : ℤ). read_answer false m y olds s) (to_z-of_z f)
+
+  pub whole_at : o ≡ read_answer true m (to_z w64 (of_z w64 z)) olds s → o ≡ whole_read m z olds s
+  unfolding whole_read
+  whole_at e = e ∙ ap (λ (y : ℤ). read_answer true m y olds s) (to_z-of_z f)
+
+  pub again_at : o ≡ whole_read m (to_z w64 (of_z w64 z)) olds s → o ≡ whole_read m z olds s
+  again_at e = e ∙ ap (λ (y : ℤ). whole_read m y olds s) (to_z-of_z f)
 
 pub passed : (z : ℤ) → SFits w64 z → (v : ℕ) → v ≡ version_of (to_z w64 (of_z w64 z)) → v ≡ version_of z
 passed z f v e = e ∙ ap version_of (to_z-of_z f)

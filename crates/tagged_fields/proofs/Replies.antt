@@ -16,7 +16,7 @@ use Rattle.body_reading.specs.Tagged.{tag_shape, tags_if, tags_shape}
 use Rattle.body_reading.specs.Walk.{Place, Places, Runs, on, walk}
 use Rattle.primitives.specs.Answers.{of_refusal}
 use Rattle.primitives.specs.declared.Refusal as Code
-use Rattle.layout.specs.Answers.{accepted, read_answer, refused, shape, tags_alone, widths}
+use Rattle.layout.specs.Answers.{accepted, prefix_read, refused, shape, tags_alone, widths}
 use Rattle.tagged_fields.specs.Read.{in_table, in_table_is, in_tables, in_tables_is, of_tag}
 use Rattle.tagged_fields.specs.declared.reading.Tag.{Tag}
 use Rattle.tagged_fields.specs.declared.reading.Tags.{Tags}
@@ -116,7 +116,8 @@ tags_shape_lem : tags_shape true 1 ≡ shape tags_alone 0
 unfolding shape at stands standing tag_rows
 tags_shape_lem = refl
 
-pub reply_long : (s l : List ℕ) (c : Refusal) → c ≡ because 2 0 → 1048576 < length s → (refused c, l ∷ []) ≡ read_answer false tags_alone (pos 0) (l ∷ []) s
+pub reply_long : (s l : List ℕ) (c : Refusal) → c ≡ because 2 0 → 1048576 < length s → (refused c, l ∷ []) ≡ prefix_read tags_alone (pos 0) (l ∷ []) s
+unfolding prefix_read
 reply_long s l c e h = answers_long tags_alone false 0 s (l ∷ []) c e (omega arith) h
 
 -- what a walk comes to, with the own row in front of the table
@@ -132,14 +133,14 @@ module _ (s t t' : List ℕ) (r : Walked) (h : Runs (λ e. walk e.0 (tags_shape 
   run_took n q k e = ap (λ y. in_tables_is t' y (false, alone, own [])) (sym e) ∙ run_is
 
 module _ (s l : List ℕ) (size : length s ≤ 1048576) (t₀ t₁ : List ℕ) (r : Walked) (first : Runs (λ e. walk e.0 (tags_shape true e.1.t) e.1.o) s 0 (in_tables t₀ 0) (in_tables_is t₁ r)) (empty : length t₁ ≡ 0) where
-  pub reply_no : (c : Code.Refusal) → r ≡ Walked.Refused c → (refused (of_refusal c), (t₁ ++ l) ∷ []) ≡ read_answer false tags_alone (pos 0) (l ∷ []) s
+  pub reply_no : (c : Code.Refusal) → r ≡ Walked.Refused c → (refused (of_refusal c), (t₁ ++ l) ∷ []) ≡ prefix_read tags_alone (pos 0) (l ∷ []) s
   reply_no c e = one_no tags_alone is_proper is_slim refl 3 tag_width 0 (omega arith) s l size t₀ t₁ empty (of_refusal c) (run_no s t₀ t₁ r first c e)
 
   module _ (n q k : ℕ) (e : r ≡ Walked.Took n q k) where
-    pub reply_needs : length (t₁ ++ l) / 3 < k / 3 → (c : Refusal) → c ≡ no_room (k / 3) → (refused c, (t₁ ++ l) ∷ []) ≡ read_answer false tags_alone (pos 0) (l ∷ []) s
+    pub reply_needs : length (t₁ ++ l) / 3 < k / 3 → (c : Refusal) → c ≡ no_room (k / 3) → (refused c, (t₁ ++ l) ∷ []) ≡ prefix_read tags_alone (pos 0) (l ∷ []) s
     reply_needs h c i = one_needs tags_alone is_proper is_slim refl 3 tag_width 0 (omega arith) s l size t₀ t₁ empty (n ∷ []) q k (run_took s t₀ t₁ r first n q k e) h c i
 
-    pub reply_took : k / 3 ≤ length (t₁ ++ l) / 3 → (l₂ : List ℕ) (r₂ : Walked) → Runs (λ e. walk e.0 (tags_shape true e.1.t) e.1.o) s 0 (in_tables (t₁ ++ l) 0) (in_tables_is l₂ r₂) → (accepted (n ∷ []) q, l₂ ∷ []) ≡ read_answer false tags_alone (pos 0) (l ∷ []) s
+    pub reply_took : k / 3 ≤ length (t₁ ++ l) / 3 → (l₂ : List ℕ) (r₂ : Walked) → Runs (λ e. walk e.0 (tags_shape true e.1.t) e.1.o) s 0 (in_tables (t₁ ++ l) 0) (in_tables_is l₂ r₂) → (accepted (n ∷ []) q, l₂ ∷ []) ≡ prefix_read tags_alone (pos 0) (l ∷ []) s
     unfolding store put
     reply_took h l₂ r₂ d = one_took tags_alone is_proper is_slim refl 3 tag_width 0 (omega arith) s l size t₀ t₁ empty (n ∷ []) q k (run_took s t₀ t₁ r first n q k e) h l₂ (in_tables_is l₂ r₂ (false, alone, own [])) (λ x m i. holds r₂ x m i) (run_is s (t₁ ++ l) l₂ r₂ d)
       where

@@ -11,7 +11,7 @@ use lib.IntN.{pos}
 use lib.ListN.{drop, get_or, length, take}
 use lib.Seq.{get_or-drop, get_or-take}
 use borrow.Rule.Slice.PartMut.{mid_of, put_mid}
-use Rattle.layout.specs.Answers.{Answer, refused, shape, store_answer, tags_alone, write_alone}
+use Rattle.layout.specs.Answers.{Answer, refused, shape, tags_alone, write_alone, write_answer}
 use Rattle.layout.specs.Primitives.{length_bytes, plain, sized_bytes, unsigned_bytes}
 use Rattle.layout.specs.Reading.{Refusal, because}
 use Rattle.layout.specs.Rows.{Shape, absent, at, blob, end, natural, standing, stands, tag_rows}
@@ -44,7 +44,7 @@ tag_wide = refl
 -- ---- a row
 
 module _ (lent : List ℕ) where
-  pub tag_value : (r : List ℕ) → row_value lent tag_shape r ≡ (get_or r 0 0, (slice lent (get_or r 1 0, get_or r 2 0), tt))
+  tag_value : (r : List ℕ) → row_value lent tag_shape r ≡ (get_or r 0 0, (slice lent (get_or r 1 0, get_or r 2 0), tt))
   unfolding value_of pop width basic_of span_of
   tag_value [] = refl
   tag_value (a ∷ []) = refl
@@ -148,15 +148,15 @@ module _ (lent table : List ℕ) (c : ℕ) (out : List ℕ) (f : Cells table) (t
   abbrev lent_rows : Tables
   lent_rows = (c ∷ []) ∷ table ∷ []
 
-  answer : (r : Answer × List ℕ) (e : ℕ) → r ≡ write_alone e (counted_bytes lent tag_shape plain 3 table) out → refusal_of lent 1 (tags_shape true 1) (tags_shape true 1) lent_rows ≡ e → r ≡ store_answer tags_alone (pos 0) lent lent_rows out
+  answer : (r : Answer × List ℕ) (e : ℕ) → r ≡ write_alone e (counted_bytes lent tag_shape plain 3 table) out → refusal_of lent 1 (tags_shape true 1) (tags_shape true 1) lent_rows ≡ e → r ≡ write_answer tags_alone (pos 0) lent lent_rows out
   answer r e w j =
       called tags_alone (pos 0) 0 refl (lit≤ tt) (lit< tt) lent lent_rows out r e (counted_bytes lent tag_shape plain 3 table) w (rw is_tags j)
       (rw is_tags (λ g. tags_bytes lent 0 1 lent_rows (λ u. omega arith) (lit< tt) (good_rows (length lent) c table g)))
 
-  pub told_bad : (e : Refusal) → e ≡ because 13 0 → judged (length lent) c table ≡ false → ◌≡◌ {A = Answer × List ℕ} (refused e, out) (store_answer tags_alone (pos 0) lent lent_rows out)
+  pub told_bad : (e : Refusal) → e ≡ because 13 0 → judged (length lent) c table ≡ false → ◌≡◌ {A = Answer × List ℕ} (refused e, out) (write_answer tags_alone (pos 0) lent lent_rows out)
   unfolding refusal_of
   told_bad e i g = answer (refused e, out) 13 (refused_alone 13 _ out e i (λ u. omega arith) refl) (rw g)
 
-  pub told_good_lem : judged (length lent) c table ≡ true → (o : Answer × List ℕ) → o ≡ write_alone 0 (counted_bytes lent tag_shape plain 3 table) out → o ≡ store_answer tags_alone (pos 0) lent lent_rows out
+  pub told_good_lem : judged (length lent) c table ≡ true → (o : Answer × List ℕ) → o ≡ write_alone 0 (counted_bytes lent tag_shape plain 3 table) out → o ≡ write_answer tags_alone (pos 0) lent lent_rows out
   unfolding refusal_of
   told_good_lem g o e = answer o 0 e (rw g (tags_clean lent 0 1 lent_rows (λ u. omega arith) (lit< tt) (omega (arith, good_rows (length lent) c table g)) f l))

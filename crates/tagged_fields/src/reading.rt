@@ -2,7 +2,7 @@
 ghost use Rattle.std.specs.Prelude.{◌≡◌, false, true, [], ◌∷◌, pos};
 ghost use Rattle.layout.specs.Reading.{loop};
 ghost use Rattle.layout.specs.Read.{by_place, read};
-ghost use Rattle.layout.specs.Answers.{read_answer, tags_alone};
+ghost use Rattle.layout.specs.Answers.{prefix_read, tags_alone};
 ghost use Rattle.body_reading.specs.Tagged.{tag_shape, tags_if, tags_shape};
 ghost use Rattle.body_reading.specs.Walk.{Runs, on, walk};
 ghost use Rattle.tagged_fields.specs.Read.{in_table, in_table_is, in_tables, in_tables_is, of_tag, of_tagged};
@@ -140,7 +140,7 @@ pub fn tags_if(s: &[u8], p: usize, flexible: bool, table: &mut [u64], mark: usiz
 
 // Tagged fields at the front of a message. The rows go to the table from its start on, three cells each; after a refusal the table is as it was.
 pub fn tagged_fields(msg: &[u8], table: &mut [u64]) -> Tagged
-    ensures { (of_tagged result, table.new ∷ []) ≡ read_answer false tags_alone (pos 0) (table.old ∷ []) msg.now }
+    ensures { (of_tagged result, table.new ∷ []) ≡ prefix_read tags_alone (pos 0) (table.old ∷ []) msg.now }
 {
     if MOST < msg.len() {
         return Tagged::Refused(at(TOO_LONG, 0));

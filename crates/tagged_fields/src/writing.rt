@@ -1,7 +1,7 @@
 // Tagged fields, written: the rows of a table, each a tag with a part of the lent bytes. By a call of their own, or in a body.
 // One walk, run twice: over no room it only counts the bytes.
 ghost use Rattle.std.specs.Prelude.{true, ◌≡◌, [], ◌∷◌, pos, get_or, length, ◌/◌, ◌<◌};
-ghost use Rattle.layout.specs.Answers.{store_answer, tags_alone};
+ghost use Rattle.layout.specs.Answers.{tags_alone, write_answer};
 ghost use Rattle.layout.specs.Primitives.{plain};
 ghost use Rattle.layout.specs.Tables.{good, rows_of};
 ghost use Rattle.primitives_put.specs.Step.{Capped, Step};
@@ -85,7 +85,7 @@ pub fn tag_buffer(out: &mut [u8], lent: &[u8], table: &[u64]) -> usize
 
 // `count` is that of the rows, or the cell of -1 for tags that are unset; a row is a tag, and the start and length of its data in `lent`.
 pub fn tagged_fields(out: &mut [u8], lent: &[u8], count: u64, table: &[u64]) -> Written
-    ensures { replied result out.new ≡ store_answer tags_alone (pos 0) lent.now ((count ∷ []) ∷ table.now ∷ []) out.old }
+    ensures { replied result out.new ≡ write_answer tags_alone (pos 0) lent.now ((count ∷ []) ∷ table.now ∷ []) out.old }
 {
     if !is_good(lent.len(), count, table) {
         return Written::Refused(at(BAD_TABLES, 0));

@@ -1,8 +1,7 @@
 //! again CASES BEFORE EXPECTED
 //!
 //! Answers a stored list again: CASES has its case lines, BEFORE the answers that they have, and EXPECTED gets those that the
-//! rules and the Rust give now. Fails on an answer that differs in anything except that a refusal has its message, row and field
-//! now, and on a disagreement.
+//! rules and the Rust give now. Fails on an answer that differs in anything except the place of a 7, and on a disagreement.
 use oracle::stored::{again, Again};
 use std::process::ExitCode;
 

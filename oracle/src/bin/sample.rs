@@ -2,14 +2,13 @@
 //! sample letters CASES EXPECTED
 //! sample frames CASES EXPECTED
 //! sample varints CASES EXPECTED
-//! sample names CASES EXPECTED
 //!
 //! A list to store and replay without Rust: the worked examples, then of every kind of case and answer a few; or some texts
-//! that are not well-formed; or some frames; or varints where their length changes; or a refusal in each field.
+//! that are not well-formed; or some frames; or varints where their length changes.
 use oracle::case::Case;
 use oracle::judge::{judge, Verdict};
 use oracle::line::{Lent, Word};
-use oracle::make::{self, examples, frames, letters, names, rng::Rng, varints};
+use oracle::make::{self, examples, frames, letters, rng::Rng, varints};
 use oracle::model::write::Own;
 use std::collections::BTreeMap;
 use std::io::Result;
@@ -31,14 +30,13 @@ fn main() -> ExitCode {
         [list, cases, expected] if list == "letters" => Some(run_list(&letters::stored(), cases, expected)),
         [list, cases, expected] if list == "frames" => Some(run_list(&frames::stored::stored(), cases, expected)),
         [list, cases, expected] if list == "varints" => Some(run_list(&varints::stored(), cases, expected)),
-        [list, cases, expected] if list == "names" => Some(run_list(&names::stored(), cases, expected)),
         [seed, cases, expected] => seed.parse().ok().map(|seed| run(seed, cases, expected)),
         _ => None,
     };
     match asked {
         Some(Ok(())) => ExitCode::SUCCESS,
         Some(Err(e)) => failed(&e.to_string()),
-        None => failed("sample SEED CASES EXPECTED, or sample letters, frames, varints or names CASES EXPECTED"),
+        None => failed("sample SEED CASES EXPECTED, or sample letters, frames or varints CASES EXPECTED"),
     }
 }
 

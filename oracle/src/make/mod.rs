@@ -9,7 +9,6 @@ pub mod fetch;
 pub mod frames;
 pub mod letters;
 pub mod metadata;
-pub mod names;
 pub mod others;
 pub mod reads;
 pub mod rng;
@@ -133,7 +132,6 @@ fn fixed(seed: u64) -> Vec<Section> {
         fetch::requests::pairs(),
         fetch::requests::sizes(),
         letters::section(),
-        names::section(),
         frames::ends::sizes(),
         frames::ends::cut_sizes(),
         frames::ends::cuts(),

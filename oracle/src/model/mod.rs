@@ -1,5 +1,5 @@
 //! The rules of docs/RULES.md as a plain reader and writer, written from the page and from nothing else. They give what the
-//! Rust has no word for: numbers, places, needs, message, row and field of a refusal, starts and rows.
+//! Rust has no word for: numbers, places, needs, what a refusal speaks of, starts and rows.
 pub mod agreement;
 pub mod api_versions;
 pub mod fetch;

@@ -1,4 +1,4 @@
--- The seven numbers, one by one.
+-- The four numbers, as they stand.
 use mathlib.Core.Path.{refl}
 use Rattle.gateway.proofs.accepted.Statement.{statement}
 use Rattle.gateway.proofs.accepted.Tie as tie

@@ -1,4 +1,4 @@
--- The seven numbers, one by one.
+-- The four numbers, as they stand.
 use mathlib.Core.Path.{refl}
 use borrow.Author.Rules.{rules}
 use Rattle.gateway.proofs.refused.Statement.{statement}
@@ -9,4 +9,4 @@ returns c = refl
 
 pub refused-spec : {M : Type 1} → statement M
 refused-spec = tie.close (tie.spec
-    (λ c. search rules) (λ c. search rules) returns)
+    (λ c. search rules) returns)

@@ -10,7 +10,7 @@ returns : tie.Need-returns
 returns c = among _ _ _ _ _ _ _ _ (ap of_front (sym c.before.before.throttle.given.1) ∙ c.before.before.before.before.front_of.ensures) c.seek.ensures
 
 returns-2 : tie.Need-returns-2
-returns-2 c = front_no _ _ _ _ _ _ (ap of_front (sym c.enum_told.given.1) ∙ c.before.before.front_of.ensures)
+returns-2 c = front_no _ _ _ _ _ _ (ap of_front (sym c.before.e.given.1) ∙ c.before.before.before.front_of.ensures)
 
 pub host-in-spec : {M : Type 1} → statement M
 host-in-spec = tie.close (tie.spec

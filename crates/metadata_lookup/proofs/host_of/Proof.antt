@@ -14,10 +14,10 @@ returns : tie.Need-returns
 returns c = answer_took _ _ _ _ _ (ap of_measure (sym c.before.before.before.body.given.1) ∙ metered_same Meta.response _ _ _ (to_z-of_z c.before.before.before.before.before.before.before.ranges.version) _ c.before.before.before.before.before.measure.ensures) _ (passed _ c.before.before.before.before.before.before.before.ranges.version _ c.before.version_of.ensures) _ c.host-in.ensures
 
 returns-2 : tie.Need-returns-2
-returns-2 c = answer_no _ _ _ _ (ap of_measure (sym c.before.before.before.e.given.1) ∙ metered_same Meta.response _ _ _ (to_z-of_z c.before.before.before.before.before.before.before.ranges.version) _ c.before.before.before.before.before.measure.ensures) _ (passed _ c.before.before.before.before.before.before.before.ranges.version _ c.before.version-of2.ensures) _ c.with-name.ensures
+returns-2 c = answer_no _ _ _ _ (ap of_measure (sym c.before.e.given.1) ∙ metered_same Meta.response _ _ _ (to_z-of_z c.before.before.before.before.before.ranges.version) _ c.before.before.before.measure.ensures)
 
 pub host-of-spec : {M : Type 1} → statement M
 host-of-spec =
     tie.close
     (tie.spec
-    (λ c κs. search rules) (λ c. search rules) (λ c κs. search rules) (λ c κs. search rules) (λ c. search rules) (λ c κs. search rules) (λ c κs. search rules) returns returns-2)
+    (λ c κs. search rules) (λ c. search rules) (λ c κs. search rules) (λ c κs. search rules) (λ c. search rules) returns returns-2)

@@ -25,7 +25,7 @@ loop-again : tie.Need-loop-preserved invariant-loop decreases-loop
 loop-again c = left_past _ _ _ _ _ _ _ c.before.before.before.before.before.before.before.loop.invariant c.before.before.before.before.before.before.loop-test.true (of_broker c.before.before.before.row.given.0.0) _ (ap of_broker_row (sym c.before.before.before.row.given.1) ∙ c.before.before.before.before.before.broker-row.ensures) c.if1.false
 
 returns-2 : tie.Need-returns-2 invariant-loop decreases-loop
-returns-2 c = left_no _ _ _ _ _ _ _ c.before.before.before.before.loop.invariant c.before.before.before.loop-test.true (of_refusal c.enum_told.given.0.0) (ap of_broker_row (sym c.enum_told.given.1) ∙ c.before.before.broker-row.ensures) _
+returns-2 c = left_no _ _ _ _ _ _ _ c.before.before.before.before.before.loop.invariant c.before.before.before.before.loop-test.true (of_refusal c.before.e.given.0.0) (ap of_broker_row (sym c.before.e.given.1) ∙ c.before.before.before.broker-row.ensures) _
 
 returns-3 : tie.Need-returns-3 invariant-loop decreases-loop
 returns-3 c = left_none _ _ _ _ _ _ _ c.before.loop.invariant c.loop-test.false

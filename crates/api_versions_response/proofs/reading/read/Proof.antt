@@ -1,15 +1,12 @@
 -- A prefix read is a read that is not whole.
-use mathlib.Core.Bool.{false}
-use Rattle.layout.specs.Answers.{prefix_read}
 use Rattle.layout.specs.Messages.ApiVersions as Api
-use Rattle.primitives.proofs.Versions.{read_at}
+use Rattle.primitives.proofs.Versions.{prefix_at}
 use borrow.Author.Rules.{rules}
 use Rattle.api_versions_response.proofs.reading.read.Statement.{statement}
 use Rattle.api_versions_response.proofs.reading.read.Tie as tie
 
 returns : tie.Need-returns
-unfolding prefix_read
-returns c = read_at false Api.response _ c.before.before.before.before.before.before.before.before.before.before.ranges.version _ _ _ c.before.before.before.before.answered.ensures
+returns c = prefix_at Api.response _ c.before.before.before.before.before.before.before.before.before.before.ranges.version _ _ _ c.before.before.before.before.answered.ensures
 
 pub read_spec : {M : Type 1} → statement M
 read_spec = tie.close (tie.spec

@@ -1,15 +1,12 @@
 -- The version that was sent is the version that is read.
-use mathlib.Core.Bool.{true}
-use Rattle.layout.specs.Answers.{whole_read}
 use Rattle.layout.specs.Messages.ApiVersions as Api
-use Rattle.primitives.proofs.Versions.{read_at}
+use Rattle.primitives.proofs.Versions.{again_at}
 use borrow.Author.Rules.{rules}
 use Rattle.api_versions_response.proofs.reading.read_answer.Statement.{statement}
 use Rattle.api_versions_response.proofs.reading.read_answer.Tie as tie
 
 returns : tie.Need-returns
-unfolding whole_read
-returns c = read_at true Api.response _ c.before.before.before.before.before.before.before.before.before.before.ranges.sent _ _ _ c.before.before.before.before.read_whole.ensures
+returns c = again_at Api.response _ c.before.before.before.before.before.before.before.before.before.before.ranges.sent _ _ _ c.before.before.before.before.read_whole.ensures
 
 pub read-answer-spec : {M : Type 1} → statement M
 read-answer-spec = tie.close (tie.spec

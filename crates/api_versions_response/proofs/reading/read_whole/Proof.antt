@@ -1,15 +1,12 @@
 -- A whole read.
-use mathlib.Core.Bool.{true}
-use Rattle.layout.specs.Answers.{whole_read}
 use Rattle.layout.specs.Messages.ApiVersions as Api
-use Rattle.primitives.proofs.Versions.{read_at}
+use Rattle.primitives.proofs.Versions.{whole_at}
 use borrow.Author.Rules.{rules}
 use Rattle.api_versions_response.proofs.reading.read_whole.Statement.{statement}
 use Rattle.api_versions_response.proofs.reading.read_whole.Tie as tie
 
 returns : tie.Need-returns
-unfolding whole_read
-returns c = read_at true Api.response _ c.before.before.before.before.before.before.before.before.before.before.ranges.version _ _ _ c.before.before.before.before.answered.ensures
+returns c = whole_at Api.response _ c.before.before.before.before.before.before.before.before.before.before.ranges.version _ _ _ c.before.before.before.before.answered.ensures
 
 pub read-whole-spec : {M : Type 1} → statement M
 read-whole-spec = tie.close (tie.spec

@@ -1,6 +1,6 @@
 -- Each case of the enum has its numbers in the definition.
 use mathlib.Core.Path.{◌∙◌, ap, sym}
-use Rattle.names.specs.Answers.{of_named}
+use Rattle.primitives.specs.Answers.{of_refusal}
 use Rattle.frame.specs.Answers.{of_response_frame}
 use Rattle.frame.specs.declared.ResponseFrame.{ResponseFrame}
 use Rattle.gateway_frame.specs.Replies.{response_frame_numbers}
@@ -13,7 +13,7 @@ returns : tie.Need-returns
 returns c = response_told _ _ _ _ _ _ c.accepted.ensures ∙ ap (λ (x : ResponseFrame). response_frame_numbers (of_response_frame x)) (sym c.before.before.r.given.1)
 
 returns-2 : tie.Need-returns-2
-returns-2 c = no_response _ (of_named c.before.before.r2.given.0.0) c.refused.ensures ∙ ap (λ (x : ResponseFrame). response_frame_numbers (of_response_frame x)) (sym c.before.before.r2.given.1)
+returns-2 c = no_response _ (of_refusal c.before.before.r2.given.0.0) c.refused.ensures ∙ ap (λ (x : ResponseFrame). response_frame_numbers (of_response_frame x)) (sym c.before.before.r2.given.1)
 
 pub reply-spec : {M : Type 1} → statement M
 reply-spec =

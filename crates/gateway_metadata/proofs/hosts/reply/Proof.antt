@@ -14,9 +14,9 @@ returns-2 : tie.Need-returns-2
 returns-2 c = ap (λ (x : Host). host_numbers (of_host x)) (sym c.enum_told.given.1)
 
 returns-3 : tie.Need-returns-3
-returns-3 c = ap (λ (x : Host). host_numbers (of_host x)) (sym c.before.before.before.h2.given.1)
+returns-3 c = ap (λ (x : Host). host_numbers (of_host x)) (sym c.before.before.h2.given.1)
 
 pub reply-spec : {M : Type 1} → statement M
 reply-spec =
     tie.close (tie.spec
-    (λ c. search rules) (λ c. search rules) (λ c. search rules) (λ c. search rules) (λ c. search rules) returns returns-2 returns-3)
+    (λ c. search rules) (λ c. search rules) (λ c. search rules) (λ c. search rules) returns returns-2 returns-3)

@@ -9,7 +9,7 @@ use Rattle.gateway_primitives.proofs.primitive.befrolan_write_primitive.Statemen
 use Rattle.gateway_primitives.proofs.primitive.befrolan_write_primitive.Tie as tie
 
 returns : tie.Need-returns
-returns c = told_by numbers _ _ c.primitive-written.ensures _ _ (c.before.before.before.primitive.ensures ∙ ap (λ (n : Bool). write_kind c.before.before.before.before.before.before.before.before.args.kind n c.before.before.before.before.before.before.before.before.args.value c.before.before.before.before.before.before.before.before.args.content.now c.before.before.before.before.before.before.before.before.args.out.now) c.before.before.before.before.is_set.ensures)
+returns c = told_by numbers _ _ c.written.ensures _ _ (c.before.before.before.primitive.ensures ∙ ap (λ (n : Bool). write_kind c.before.before.before.before.before.before.before.before.args.kind n c.before.before.before.before.before.before.before.before.args.value c.before.before.before.before.before.before.before.before.args.content.now c.before.before.before.before.before.before.before.before.args.out.now) c.before.before.before.before.is_set.ensures)
 
 pub befrolan-write-primitive-spec : {M : Type 1} → statement M
 befrolan-write-primitive-spec =

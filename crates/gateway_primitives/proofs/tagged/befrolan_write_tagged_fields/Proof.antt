@@ -6,7 +6,7 @@ use Rattle.gateway_primitives.proofs.tagged.befrolan_write_tagged_fields.Stateme
 use Rattle.gateway_primitives.proofs.tagged.befrolan_write_tagged_fields.Tie as tie
 
 returns : tie.Need-returns
-returns c = told_by numbers _ _ c.primitive-written.ensures _ _ c.before.before.before.tagged-fields.ensures
+returns c = told_by numbers _ _ c.written.ensures _ _ c.before.before.before.tagged-fields.ensures
 
 pub befrolan-write-tagged-fields-spec : {M : Type 1} → statement M
 befrolan-write-tagged-fields-spec =

@@ -18,10 +18,10 @@ loop-holds c = clean_start _ _ _
 
 returns : tie.Need-returns invariant-loop decreases-loop
 unfolding rows_fault
-returns c = clean_stop _ _ _ _ c.before.before.before.loop.invariant c.before.before.loop-test.true _ c.before.name_fault_lem.ensures c.if1.true
+returns c = clean_stop _ _ _ _ c.before.before.before.loop.invariant c.before.before.loop-test.true _ c.before.name-fault.ensures c.if1.true
 
 loop-again : tie.Need-loop-preserved invariant-loop decreases-loop
-loop-again c = clean_more _ _ _ _ c.before.before.before.loop.invariant c.before.before.loop-test.true _ c.before.name_fault_lem.ensures c.if1.false
+loop-again c = clean_more _ _ _ _ c.before.before.before.loop.invariant c.before.before.loop-test.true _ c.before.name-fault.ensures c.if1.false
 
 returns-2 : tie.Need-returns-2 invariant-loop decreases-loop
 unfolding rows_fault
