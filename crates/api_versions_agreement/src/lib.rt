@@ -1,4 +1,6 @@
 // Version agreement: which version of each API we speak with a broker, from any ApiVersions item rows.
+#![tactic(auto)]
+
 ghost use Rattle.std.specs.Prelude.{◌≡◌};
 ghost use Rattle.layout.specs.Agreement.{highest, smaller};
 ghost use Rattle.api_versions_agreement.specs.Agreed.{of_range, range_of, shown_agreed, shown_agreement};

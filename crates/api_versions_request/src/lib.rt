@@ -1,5 +1,7 @@
 // The ApiVersions request, versions 0 to 3: what a client says of itself, read and written.
 // Numbers are cells, as in the tables: 64 bits, two's complement.
+#![tactic(auto)]
+
 use primitives::Refusal;
 
 mod reading;
@@ -9,7 +11,7 @@ pub use reading::read;
 pub use writing::write;
 
 // A text of a request: versions below 3 lack it, and a writer may leave it unset.
-#[derive(Drop)]
+#[derive(Clone, Copy)]
 pub enum Text {
     Absent,
     Present { start: usize, len: usize },

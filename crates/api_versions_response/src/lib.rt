@@ -1,5 +1,7 @@
 // The ApiVersions response, versions 0 to 3: what a broker offers, read, read whole, and written; what was written comes back.
 // Numbers are cells, as in the tables: 64 bits, two's complement.
+#![tactic(auto)]
+
 use body_reading::versioned::Versioned;
 use primitives::Refusal;
 

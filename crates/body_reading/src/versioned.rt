@@ -13,7 +13,7 @@ use primitives::{Field, Flag, Nullable, Number, Refusal};
 const ABSENT: u64 = 18446744073709551615;
 
 // A number that a version may lack, or a writer leave unset.
-#[derive(Drop)]
+#[derive(Clone, Copy)]
 pub enum Versioned {
     Absent,
     Present(u64),

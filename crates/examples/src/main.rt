@@ -1,158 +1,126 @@
 // Runs the readers and writers of primitives on the examples of docs/RULES.md and on the varints at the ends of each length, and tells what they answer.
 // expected.py has what it must write, from the rules and from Python's own arithmetic.
-use libc::STDOUT_FILENO;
+#![tactic(auto)]
+
 use primitives::{Count, Field, Flag, Integer, Nullable, Number, Part, Refusal};
 use primitives_put::Written;
+use std::io;
 use tagged_fields::reading::Tagged;
 
-fn say(s: &[u8]) {
-    io::write_all(STDOUT_FILENO, s);
-}
-
-fn decimal(n: u64) {
-    io::print_decimal(STDOUT_FILENO, n);
-}
-
-fn byte(b: u8) {
-    say(b" ");
-    io::print_hex(STDOUT_FILENO, b as u64, 2);
-}
-
-fn hex(s: &[u8]) {
-    let mut i: usize = 0;
-    while i < s.len() {
-        byte(s[i]);
-        i = i + 1;
+fn hex(rt: &impl Print, s: &[u8]) -> io::Result<()> {
+    for b in s {
+        print!(rt; " {b:02x}")?;
     }
+    Ok(())
 }
 
-fn refused(e: Refusal) {
-    decimal(e.number as u64);
-    say(b" at ");
-    decimal(e.place as u64);
-    say(b", need ");
-    decimal(e.need as u64);
+fn refused(rt: &impl Print, e: Refusal) -> io::Result<()> {
+    print!(rt; "{} at {}, need {}", e.number, e.place, e.need)
 }
 
-fn used(n: usize) {
-    say(b", used ");
-    decimal(n as u64);
-    say(b"\n");
+fn refused_line(rt: &impl Print, e: Refusal) -> io::Result<()> {
+    refused(rt, e)?;
+    println!(rt)
 }
 
-fn number(r: Number) {
+fn used(rt: &impl Print, n: usize) -> io::Result<()> {
+    println!(rt; ", used {n}")
+}
+
+fn number(rt: &impl Print, r: Number) -> io::Result<()> {
     match r {
         Number::Took { value, used: n } => {
-            decimal(value);
-            used(n);
+            print!(rt; "{value}")?;
+            used(rt, n)
         }
-        Number::Refused(e) => {
-            refused(e);
-            say(b"\n");
-        }
+        Number::Refused(e) => refused_line(rt, e),
     }
 }
 
 // A signed number as its eight bytes.
-fn integer(r: Integer) {
+fn integer(rt: &impl Print, r: Integer) -> io::Result<()> {
     match r {
         Integer::Took { value, used: n } => {
             let mut out = [0u8; 8];
             let w = primitives_calls::write::int64(&mut out, value);
-            wrote(&out, w);
-            used(n);
+            wrote(rt, &out, w)?;
+            used(rt, n)
         }
-        Integer::Refused(e) => {
-            refused(e);
-            say(b"\n");
-        }
+        Integer::Refused(e) => refused_line(rt, e),
     }
 }
 
-fn flag(r: Flag) {
+fn flag(rt: &impl Print, r: Flag) -> io::Result<()> {
     match r {
         Flag::Took { value, used: n } => {
-            decimal(value as u64);
-            used(n);
+            print!(rt; "{}", value as u64)?;
+            used(rt, n)
         }
-        Flag::Refused(e) => {
-            refused(e);
-            say(b"\n");
-        }
+        Flag::Refused(e) => refused_line(rt, e),
     }
 }
 
-fn count(r: Count) {
+fn count(rt: &impl Print, r: Count) -> io::Result<()> {
     match r {
         Count::Null { used: n } => {
-            say(b"null");
-            used(n);
+            print!(rt; "null")?;
+            used(rt, n)
         }
         Count::Took { count: k, used: n } => {
-            decimal(k);
-            used(n);
+            print!(rt; "{k}")?;
+            used(rt, n)
         }
-        Count::Refused(e) => {
-            refused(e);
-            say(b"\n");
-        }
+        Count::Refused(e) => refused_line(rt, e),
     }
 }
 
-fn part(r: Part) {
+fn part(rt: &impl Print, r: Part) -> io::Result<()> {
     match r {
         Part::Took {
             start,
             len,
             used: n,
         } => {
-            decimal(len as u64);
-            say(b" from ");
-            decimal(start as u64);
-            used(n);
+            print!(rt; "{len} from {start}")?;
+            used(rt, n)
         }
-        Part::Refused(e) => {
-            refused(e);
-            say(b"\n");
-        }
+        Part::Refused(e) => refused_line(rt, e),
     }
 }
 
-fn field(f: Field) {
+fn field(rt: &impl Print, f: Field) -> io::Result<()> {
     match f {
-        Field::Absent => say(b"absent"),
-        Field::Null => say(b"null"),
-        Field::Present { start, len } => {
-            decimal(len as u64);
-            say(b" from ");
-            decimal(start as u64);
-        }
+        Field::Absent => print!(rt; "absent"),
+        Field::Null => print!(rt; "null"),
+        Field::Present { start, len } => print!(rt; "{len} from {start}"),
     }
 }
 
-fn nullable(r: Nullable) {
+fn nullable(rt: &impl Print, r: Nullable) -> io::Result<()> {
     match r {
         Nullable::Took { field: f, used: n } => {
-            field(f);
-            used(n);
+            field(rt, f)?;
+            used(rt, n)
         }
-        Nullable::Refused(e) => {
-            refused(e);
-            say(b"\n");
-        }
+        Nullable::Refused(e) => refused_line(rt, e),
     }
 }
 
-fn wrote(out: &[u8], r: Written) {
+fn wrote(rt: &impl Print, out: &[u8], r: Written) -> io::Result<()> {
     match r {
-        Written::Wrote(n) => hex(primitives::shown::part(out, 0, n)),
-        Written::Refused(e) => refused(e),
+        Written::Wrote(n) => hex(rt, primitives::shown::part(out, 0, n)),
+        Written::Refused(e) => refused(rt, e),
     }
+}
+
+fn wrote_line(rt: &impl Print, out: &[u8], r: Written) -> io::Result<()> {
+    wrote(rt, out, r)?;
+    println!(rt)
 }
 
 // ---- varints at the ends of their lengths, written and read again
 
-fn unsigned_varints() {
+fn unsigned_varints(rt: &impl Print) -> io::Result<()> {
     let ends = [
         0u64,
         127,
@@ -175,18 +143,16 @@ fn unsigned_varints() {
         9223372036854775808,
         18446744073709551615,
     ];
-    let mut i: usize = 0;
-    while i < ends.len() {
+    for n in ends {
         let mut out = [0u8; 10];
-        let r = primitives_calls::write::unsigned_varint(&mut out, ends[i]);
-        wrote(&out, r);
-        say(b"\n");
-        number(primitives_calls::read::unsigned_varint(&out));
-        i = i + 1;
+        let r = primitives_calls::write::unsigned_varint(&mut out, n);
+        wrote_line(rt, &out, r)?;
+        number(rt, primitives_calls::read::unsigned_varint(&out))?;
     }
+    Ok(())
 }
 
-fn varints() {
+fn varints(rt: &impl Print) -> io::Result<()> {
     let ends = [
         -2147483649i64,
         -2147483648,
@@ -203,18 +169,16 @@ fn varints() {
         2147483647,
         2147483648,
     ];
-    let mut i: usize = 0;
-    while i < ends.len() {
+    for n in ends {
         let mut out = [0u8; 10];
-        let r = primitives_calls::write::varint(&mut out, ends[i]);
-        wrote(&out, r);
-        say(b"\n");
-        integer(primitives_calls::read::varint(&out));
-        i = i + 1;
+        let r = primitives_calls::write::varint(&mut out, n);
+        wrote_line(rt, &out, r)?;
+        integer(rt, primitives_calls::read::varint(&out))?;
     }
+    Ok(())
 }
 
-fn varlongs() {
+fn varlongs(rt: &impl Print) -> io::Result<()> {
     let ends = [
         -9223372036854775808i64,
         -4611686018427387905,
@@ -225,163 +189,165 @@ fn varlongs() {
         4611686018427387904,
         9223372036854775807,
     ];
-    let mut i: usize = 0;
-    while i < ends.len() {
+    for n in ends {
         let mut out = [0u8; 10];
-        let r = primitives_calls::write::varlong(&mut out, ends[i]);
-        wrote(&out, r);
-        say(b"\n");
-        integer(primitives_calls::read::varlong(&out));
-        i = i + 1;
+        let r = primitives_calls::write::varlong(&mut out, n);
+        wrote_line(rt, &out, r)?;
+        integer(rt, primitives_calls::read::varlong(&out))?;
     }
+    Ok(())
 }
 
 // ---- the examples of the rules
 
-fn texts() {
-    part(primitives_calls::read::string(&[0, 4, 0xF4, 0x8F, 0xBF, 0xBF]));
-    part(primitives_calls::read::string(&[0, 4, 0xF4, 0x90, 0x80, 0x80]));
-    part(primitives_calls::read::string(&[0, 2, 0xC0, 0x80]));
-    part(primitives_calls::read::string(&[0, 3, 0xED, 0xA0, 0x80]));
+fn texts(rt: &impl Print) -> io::Result<()> {
+    part(
+        rt,
+        primitives_calls::read::string(&[0, 4, 0xF4, 0x8F, 0xBF, 0xBF]),
+    )?;
+    part(
+        rt,
+        primitives_calls::read::string(&[0, 4, 0xF4, 0x90, 0x80, 0x80]),
+    )?;
+    part(rt, primitives_calls::read::string(&[0, 2, 0xC0, 0x80]))?;
+    part(
+        rt,
+        primitives_calls::read::string(&[0, 3, 0xED, 0xA0, 0x80]),
+    )
 }
 
-fn written(text: &[u8]) {
+fn written(rt: &impl Print, text: &[u8]) -> io::Result<()> {
     let mut out = [0u8; 6];
     let r = primitives_calls::write::string(&mut out, text);
-    wrote(&out, r);
-    say(b"\n");
+    wrote_line(rt, &out, r)
 }
 
-fn written_texts() {
-    written(&[0xF4, 0x8F, 0xBF, 0xBF]);
-    written(&[0xF4, 0x90, 0x80, 0x80]);
-    written(&[0xC0, 0x80]);
-    written(&[0xED, 0xA0, 0x80]);
-    written(b"abcde");
+fn written_texts(rt: &impl Print) -> io::Result<()> {
+    written(rt, &[0xF4, 0x8F, 0xBF, 0xBF])?;
+    written(rt, &[0xF4, 0x90, 0x80, 0x80])?;
+    written(rt, &[0xC0, 0x80])?;
+    written(rt, &[0xED, 0xA0, 0x80])?;
+    written(rt, b"abcde")
 }
 
-fn size(r: Written) {
+fn size(rt: &impl Print, r: Written) -> io::Result<()> {
     match r {
-        Written::Wrote(n) => {
-            decimal(n as u64);
-            say(b" bytes\n");
-        }
-        Written::Refused(e) => {
-            refused(e);
-            say(b"\n");
-        }
+        Written::Wrote(n) => println!(rt; "{n} bytes"),
+        Written::Refused(e) => refused_line(rt, e),
     }
 }
 
-fn long_texts() {
+fn long_texts(rt: &impl Print) -> io::Result<()> {
     let text = [b'a'; 32768];
-    let mut out = io::large_buffer();
-    size(primitives_calls::write::string(&mut out, &text[..32767]));
-    part(primitives_calls::read::string(&out));
-    size(primitives_calls::write::string(&mut out, &text));
-    size(primitives_calls::write::nullable_string(&mut out, false, &text));
-    size(primitives_calls::write::compact_string(&mut out, &text));
+    let mut out = [0u8; 65536];
+    size(
+        rt,
+        primitives_calls::write::string(&mut out, &text[..32767]),
+    )?;
+    part(rt, primitives_calls::read::string(&out))?;
+    size(rt, primitives_calls::write::string(&mut out, &text))?;
+    size(
+        rt,
+        primitives_calls::write::nullable_string(&mut out, false, &text),
+    )?;
+    size(rt, primitives_calls::write::compact_string(&mut out, &text))
 }
 
-fn lengths() {
-    nullable(primitives_calls::read::nullable_string(&[0xFF, 0xFF]));
-    nullable(primitives_calls::read::nullable_string(&[0xFF, 0xFE]));
-    part(primitives_calls::read::compact_string(&[0]));
-    part(primitives_calls::read::compact_string(&[1]));
-    nullable(primitives_calls::read::compact_nullable_string(&[0]));
-    part(primitives_calls::read::compact_bytes(&[0]));
-    part(primitives_calls::read::records(&[0xFF, 0xFF, 0xFF, 0xFF]));
+fn lengths(rt: &impl Print) -> io::Result<()> {
+    nullable(rt, primitives_calls::read::nullable_string(&[0xFF, 0xFF]))?;
+    nullable(rt, primitives_calls::read::nullable_string(&[0xFF, 0xFE]))?;
+    part(rt, primitives_calls::read::compact_string(&[0]))?;
+    part(rt, primitives_calls::read::compact_string(&[1]))?;
+    nullable(rt, primitives_calls::read::compact_nullable_string(&[0]))?;
+    part(rt, primitives_calls::read::compact_bytes(&[0]))?;
+    part(
+        rt,
+        primitives_calls::read::records(&[0xFF, 0xFF, 0xFF, 0xFF]),
+    )
 }
 
-fn tagged(r: Tagged) {
+fn tagged(rt: &impl Print, r: Tagged) -> io::Result<()> {
     match r {
         Tagged::Took { count: k, used: n } => {
-            decimal(k);
-            used(n);
+            print!(rt; "{k}")?;
+            used(rt, n)
         }
-        Tagged::Refused(e) => {
-            refused(e);
-            say(b"\n");
-        }
+        Tagged::Refused(e) => refused_line(rt, e),
     }
 }
 
-fn cells(table: &[u64]) {
-    let mut i: usize = 0;
-    while i < table.len() {
-        say(b" ");
-        decimal(table[i]);
-        i = i + 1;
+fn cells(rt: &impl Print, table: &[u64]) -> io::Result<()> {
+    for c in table {
+        print!(rt; " {c}")?;
     }
-    say(b"\n");
+    println!(rt)
 }
 
 // The table begins as seven sevens: two rows, and a cell that is no row.
-fn tag_rows(msg: &[u8]) {
+fn tag_rows(rt: &impl Print, msg: &[u8]) -> io::Result<()> {
     let mut table = [7u64; 7];
-    tagged(tagged_fields::reading::tagged_fields(msg, &mut table));
-    cells(&table);
+    tagged(rt, tagged_fields::reading::tagged_fields(msg, &mut table))?;
+    cells(rt, &table)
 }
 
-fn tag_buffers() {
-    tag_rows(&[0]);
-    tag_rows(&[2, 5, 0, 4, 2, 0xAA, 0xBB, 0xCC]);
-    tag_rows(&[1, 5, 2, 0xAA]);
-    tag_rows(&[3, 1, 0, 2, 0, 3, 0]);
-    tag_rows(&[2, 1, 0]);
-    tag_rows(&[]);
+fn tag_buffers(rt: &impl Print) -> io::Result<()> {
+    tag_rows(rt, &[0])?;
+    tag_rows(rt, &[2, 5, 0, 4, 2, 0xAA, 0xBB, 0xCC])?;
+    tag_rows(rt, &[1, 5, 2, 0xAA])?;
+    tag_rows(rt, &[3, 1, 0, 2, 0, 3, 0])?;
+    tag_rows(rt, &[2, 1, 0])?;
+    tag_rows(rt, &[])
 }
 
 // Two bytes are lent, and there is room for seven.
-fn tags_put(count: u64, table: &[u64]) {
+fn tags_put(rt: &impl Print, count: u64, table: &[u64]) -> io::Result<()> {
     let mut out = [0u8; 7];
     let r = tagged_fields::writing::tagged_fields(&mut out, &[0xAA, 0xBB], count, table);
-    wrote(&out, r);
-    say(b"\n");
+    wrote_line(rt, &out, r)
 }
 
-fn written_tags() {
-    tags_put(2, &[5, 0, 0, 4, 0, 2]);
-    tags_put(18446744073709551615, &[]);
-    tags_put(1, &[5, 0, 0, 4, 0, 2]);
-    tags_put(1, &[5, 1, 2]);
-    tags_put(2, &[5, 0, 1, 4, 0, 2]);
+fn written_tags(rt: &impl Print) -> io::Result<()> {
+    tags_put(rt, 2, &[5, 0, 0, 4, 0, 2])?;
+    tags_put(rt, 18446744073709551615, &[])?;
+    tags_put(rt, 1, &[5, 0, 0, 4, 0, 2])?;
+    tags_put(rt, 1, &[5, 1, 2])?;
+    tags_put(rt, 2, &[5, 0, 1, 4, 0, 2])
 }
 
-fn no_numbers(msg: &[u8]) {
-    integer(primitives_calls::read::int8(msg));
-    integer(primitives_calls::read::int16(msg));
-    integer(primitives_calls::read::int32(msg));
-    integer(primitives_calls::read::int64(msg));
-    flag(primitives_calls::read::boolean(msg));
-    number(primitives_calls::read::unsigned_varint(msg));
-    integer(primitives_calls::read::varint(msg));
-    integer(primitives_calls::read::varlong(msg));
+fn no_numbers(rt: &impl Print, msg: &[u8]) -> io::Result<()> {
+    integer(rt, primitives_calls::read::int8(msg))?;
+    integer(rt, primitives_calls::read::int16(msg))?;
+    integer(rt, primitives_calls::read::int32(msg))?;
+    integer(rt, primitives_calls::read::int64(msg))?;
+    flag(rt, primitives_calls::read::boolean(msg))?;
+    number(rt, primitives_calls::read::unsigned_varint(msg))?;
+    integer(rt, primitives_calls::read::varint(msg))?;
+    integer(rt, primitives_calls::read::varlong(msg))
 }
 
-fn no_fields(msg: &[u8]) {
-    count(primitives_calls::read::array_count(msg));
-    count(primitives_calls::read::compact_array_count(msg));
-    part(primitives_calls::read::bytes(msg));
-    nullable(primitives_calls::read::nullable_bytes(msg));
-    part(primitives_calls::read::compact_bytes(msg));
-    part(primitives_calls::read::records(msg));
-    part(primitives_calls::read::string(msg));
-    nullable(primitives_calls::read::nullable_string(msg));
-    part(primitives_calls::read::compact_string(msg));
-    nullable(primitives_calls::read::compact_nullable_string(msg));
+fn no_fields(rt: &impl Print, msg: &[u8]) -> io::Result<()> {
+    count(rt, primitives_calls::read::array_count(msg))?;
+    count(rt, primitives_calls::read::compact_array_count(msg))?;
+    part(rt, primitives_calls::read::bytes(msg))?;
+    nullable(rt, primitives_calls::read::nullable_bytes(msg))?;
+    part(rt, primitives_calls::read::compact_bytes(msg))?;
+    part(rt, primitives_calls::read::records(msg))?;
+    part(rt, primitives_calls::read::string(msg))?;
+    nullable(rt, primitives_calls::read::nullable_string(msg))?;
+    part(rt, primitives_calls::read::compact_string(msg))?;
+    nullable(rt, primitives_calls::read::compact_nullable_string(msg))
 }
 
-fn main() {
-    unsigned_varints();
-    varints();
-    varlongs();
-    texts();
-    written_texts();
-    long_texts();
-    lengths();
-    tag_buffers();
-    written_tags();
-    no_numbers(&[]);
-    no_fields(&[]);
+fn main(rt: HostRuntime) -> io::Result<()> {
+    unsigned_varints(&rt)?;
+    varints(&rt)?;
+    varlongs(&rt)?;
+    texts(&rt)?;
+    written_texts(&rt)?;
+    long_texts(&rt)?;
+    lengths(&rt)?;
+    tag_buffers(&rt)?;
+    written_tags(&rt)?;
+    no_numbers(&rt, &[])?;
+    no_fields(&rt, &[])
 }

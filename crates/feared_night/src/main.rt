@@ -1,164 +1,128 @@
 // The feared night: a broker was swapped, and its ApiVersions answer has another version's layout.
 // Bodies of every layout, each read whole at every version, and then as the Rust reads it, to the end of what it wants: there some parse as a broker that offers nothing.
 // expected.py has what it must write, from the rules, by a reader of its own.
+#![tactic(auto)]
+
 ghost use Rattle.std.specs.Prelude.{◌≡◌, ◌≤◌};
 ghost use Rattle.api_versions_response.specs.Answers.{accepting};
 
 use api_versions_response::{ResponseBody, ResponseReply};
 use body_reading::versioned::Versioned;
 use body_writing::ranges::part;
-use libc::STDOUT_FILENO;
 use primitives::Refusal;
 use primitives_put::Written;
-
-fn say(s: &[u8]) {
-    io::write_all(STDOUT_FILENO, s);
-}
-
-fn decimal(n: u64) {
-    io::print_decimal(STDOUT_FILENO, n);
-}
+use std::io;
 
 // The signed number that a cell stands for.
-fn cell(c: u64) {
-    if c < 9223372036854775808 {
-        decimal(c);
-    } else {
-        say(b"-");
-        decimal(18446744073709551615 - c + 1);
+fn cell(rt: &impl Print, c: u64) -> io::Result<()> {
+    print!(rt; "{}", c.cast_signed())
+}
+
+fn hex(rt: &impl Print, s: &[u8]) -> io::Result<()> {
+    for b in s {
+        print!(rt; " {b:02x}")?;
     }
+    println!(rt)
 }
 
-fn byte(b: u8) {
-    say(b" ");
-    io::print_hex(STDOUT_FILENO, b as u64, 2);
-}
-
-fn hex(s: &[u8]) {
-    let mut left = s;
-    while 0 < left.len() {
-        byte(left[0]);
-        left = &left[1..];
-    }
-    say(b"\n");
-}
-
-fn throttle(t: Versioned) {
+fn throttle(rt: &impl Print, t: Versioned) -> io::Result<()> {
     match t {
-        Versioned::Absent => say(b"absent"),
-        Versioned::Present(n) => cell(n),
+        Versioned::Absent => print!(rt; "absent"),
+        Versioned::Present(n) => cell(rt, n),
     }
 }
 
-fn row(key: u64, min: u64, max: u64, tags: u64) {
-    say(b"    key ");
-    cell(key);
-    say(b": ");
-    cell(min);
-    say(b" to ");
-    cell(max);
-    say(b", tags ");
-    cell(tags);
-    say(b"\n");
+fn row(rt: &impl Print, key: u64, min: u64, max: u64, tags: u64) -> io::Result<()> {
+    print!(rt; "    key ")?;
+    cell(rt, key)?;
+    print!(rt; ": ")?;
+    cell(rt, min)?;
+    print!(rt; " to ")?;
+    cell(rt, max)?;
+    print!(rt; ", tags ")?;
+    cell(rt, tags)?;
+    println!(rt)
 }
 
 // The rows that were filled.
-fn rows(items: &[u64], filled: u64) {
+fn rows(rt: &impl Print, items: &[u64], filled: u64) -> io::Result<()> {
     let n = items.len() / 4;
-    let mut i: usize = 0;
-    while i < n {
+    for i in 0..n {
         if (i as u64) < filled {
             row(
+                rt,
                 items[i * 4],
                 items[i * 4 + 1],
                 items[i * 4 + 2],
                 items[i * 4 + 3],
-            );
+            )?;
         }
-        i = i + 1;
     }
+    Ok(())
 }
 
-fn accepted(body: ResponseBody, used: usize) {
-    say(b"accepted, used ");
-    decimal(used as u64);
-    say(b", error ");
-    cell(body.error);
-    say(b", items ");
-    cell(body.items);
-    say(b", throttle ");
+fn accepted(rt: &impl Print, body: ResponseBody, used: usize) -> io::Result<()> {
+    print!(rt; "accepted, used {used}, error ")?;
+    cell(rt, body.error)?;
+    print!(rt; ", items ")?;
+    cell(rt, body.items)?;
+    print!(rt; ", throttle ")?;
     let t = body.throttle;
-    throttle(t);
-    say(b", tags ");
-    cell(body.tags);
-    say(b"\n");
+    throttle(rt, t)?;
+    print!(rt; ", tags ")?;
+    cell(rt, body.tags)?;
+    println!(rt)
 }
 
-fn refused(e: Refusal) {
-    say(b"refused, ");
-    decimal(e.number as u64);
-    say(b" at ");
-    decimal(e.place as u64);
-    say(b"\n");
+fn refused(rt: &impl Print, e: Refusal) -> io::Result<()> {
+    println!(rt; "refused, {} at {}", e.number, e.place)
 }
 
-fn signed(n: i64) {
-    cell(primitives_put::replies::cell(n));
+fn chosen(rt: &impl Print, a: [i64; 3]) -> io::Result<()> {
+    println!(rt; "    agreed on key {}: {} of {}", a[0], a[1], a[2])
 }
 
-fn chosen(a: [i64; 3]) {
-    say(b"    agreed on key ");
-    signed(a[0]);
-    say(b": ");
-    signed(a[1]);
-    say(b" of ");
-    signed(a[2]);
-    say(b"\n");
-}
-
-fn offered(items: &[u64]) {
+fn offered(rt: &impl Print, items: &[u64]) -> io::Result<()> {
     let a = api_versions_agreement::agree(items);
-    chosen(a[0]);
-    chosen(a[1]);
-    chosen(a[2]);
+    chosen(rt, a[0])?;
+    chosen(rt, a[1])?;
+    chosen(rt, a[2])
 }
 
 // What a read answered; where it accepted, its items and what is agreed on from them.
-fn told(r: ResponseReply, items: &[u64]) {
+fn told(rt: &impl Print, r: ResponseReply, items: &[u64]) -> io::Result<()> {
     match r {
         ResponseReply::Took { body, used } => {
             let n = body.items;
-            accepted(body, used);
-            rows(items, n);
-            offered(items);
+            accepted(rt, body, used)?;
+            rows(rt, items, n)?;
+            offered(rt, items)
         }
-        ResponseReply::Refused(e) => refused(e),
+        ResponseReply::Refused(e) => refused(rt, e),
     }
 }
 
 // The tables begin as rows of no key.
-fn whole(msg: &[u8], version: i64, name: &[u8]) {
+fn whole(rt: &impl Print, msg: &[u8], version: i64, name: &str) -> io::Result<()> {
     let mut items = [18446744073709551615u64; 12];
     let mut tags = [0u64; 9];
-    say(b"  whole at ");
-    say(name);
-    say(b": ");
+    print!(rt; "  whole at {name}: ")?;
     told(
+        rt,
         api_versions_response::read_whole(msg, version, &mut items, &mut tags),
         &items,
-    );
+    )
 }
 
-fn prefix(msg: &[u8], version: i64, name: &[u8]) {
+fn prefix(rt: &impl Print, msg: &[u8], version: i64, name: &str) -> io::Result<()> {
     let mut items = [18446744073709551615u64; 12];
     let mut tags = [0u64; 9];
-    say(b"  prefix at ");
-    say(name);
-    say(b": ");
+    print!(rt; "  prefix at {name}: ")?;
     told(
+        rt,
         api_versions_response::read(msg, version, &mut items, &mut tags),
         &items,
-    );
+    )
 }
 
 fn accepts(r: ResponseReply) -> u64
@@ -180,34 +144,33 @@ fn layouts(msg: &[u8], items: &mut [u64], tags: &mut [u64]) -> u64
     bare + throttled + flexible
 }
 
-fn body(name: &[u8], msg: &[u8]) {
-    say(name);
-    hex(msg);
+fn body(rt: &impl Print, name: &str, msg: &[u8]) -> io::Result<()> {
+    print!(rt; "{name}")?;
+    hex(rt, msg)?;
     let mut items = [0u64; 12];
     let mut tags = [0u64; 9];
-    say(b"  layouts that accept it: ");
-    decimal(layouts(msg, &mut items, &mut tags));
-    say(b"\n");
-    whole(msg, 0, b"0");
-    whole(msg, 1, b"1");
-    whole(msg, 2, b"2");
-    whole(msg, 3, b"3");
-    prefix(msg, 0, b"0");
-    prefix(msg, 1, b"1");
-    prefix(msg, 2, b"2");
-    prefix(msg, 3, b"3");
+    let accepting = layouts(msg, &mut items, &mut tags);
+    println!(rt; "  layouts that accept it: {accepting}")?;
+    whole(rt, msg, 0, "0")?;
+    whole(rt, msg, 1, "1")?;
+    whole(rt, msg, 2, "2")?;
+    whole(rt, msg, 3, "3")?;
+    prefix(rt, msg, 0, "0")?;
+    prefix(rt, msg, 1, "1")?;
+    prefix(rt, msg, 2, "2")?;
+    prefix(rt, msg, 3, "3")
 }
 
 // What was written, as a body.
-fn again(name: &[u8], r: Written, out: &[u8]) {
+fn again(rt: &impl Print, name: &str, r: Written, out: &[u8]) -> io::Result<()> {
     match r {
-        Written::Wrote(n) => body(name, part(out, 0, n as u64)),
-        Written::Refused(e) => refused(e),
+        Written::Wrote(n) => body(rt, name, part(out, 0, n as u64)),
+        Written::Refused(e) => refused(rt, e),
     }
 }
 
 // Three items, the second with a tag, a throttle time and an own tag: fields that the version lacks are dropped.
-fn written(version: i64, name: &[u8]) {
+fn written(rt: &impl Print, version: i64, name: &str) -> io::Result<()> {
     let mut out = [0u8; 40];
     let fields = ResponseBody {
         error: 0,
@@ -223,45 +186,53 @@ fn written(version: i64, name: &[u8]) {
         &[18, 0, 3, 0, 3, 0, 9, 1, 1, 4, 12, 0],
         &[7, 0, 1, 9, 1, 0],
     );
-    again(name, r, &out);
+    again(rt, name, r, &out)
 }
 
-fn main() {
+fn main(rt: HostRuntime) -> io::Result<()> {
     body(
-        b"E9, version 0, one row:",
+        &rt,
+        "E9, version 0, one row:",
         b"\x00\x00\x00\x00\x00\x01\x00\x12\x00\x00\x00\x03",
-    );
+    )?;
     body(
-        b"E10, version 1, the same row, throttle 0:",
+        &rt,
+        "E10, version 1, the same row, throttle 0:",
         b"\x00\x00\x00\x00\x00\x01\x00\x12\x00\x00\x00\x03\x00\x00\x00\x00",
-    );
+    )?;
     body(
-        b"E11, version 3, the same row:",
+        &rt,
+        "E11, version 3, the same row:",
         b"\x00\x00\x02\x00\x12\x00\x00\x00\x03\x00\x00\x00\x00\x00\x00",
-    );
+    )?;
     body(
-        b"E12, version 1, no items, throttle 66816:",
+        &rt,
+        "E12, version 1, no items, throttle 66816:",
         b"\x00\x00\x00\x00\x00\x00\x00\x01\x05\x00",
-    );
+    )?;
     body(
-        b"Version 0, error 35, no items:",
+        &rt,
+        "Version 0, error 35, no items:",
         b"\x00\x23\x00\x00\x00\x00",
-    );
+    )?;
     body(
-        b"Version 2, three rows, throttle 100:",
+        &rt,
+        "Version 2, three rows, throttle 100:",
         b"\x00\x00\x00\x00\x00\x03\x00\x12\x00\x00\x00\x03\x00\x03\x00\x00\x00\x09\x00\x01\x00\x04\x00\x0c\x00\x00\x00\x64",
-    );
+    )?;
     body(
-        b"Version 3, three rows, one with a tag, throttle 100, an own tag:",
+        &rt,
+        "Version 3, three rows, one with a tag, throttle 100, an own tag:",
         b"\x00\x00\x04\x00\x12\x00\x00\x00\x03\x00\x00\x03\x00\x00\x00\x09\x01\x07\x01\xaa\x00\x01\x00\x04\x00\x0c\x00\x00\x00\x00\x64\x01\x09\x00",
-    );
+    )?;
     body(
-        b"Version 3, null items:",
+        &rt,
+        "Version 3, null items:",
         b"\x00\x00\x00\x00\x00\x00\x00\x00",
-    );
-    body(b"Nothing at all:", b"");
-    written(0, b"Written at 0:");
-    written(1, b"Written at 1:");
-    written(2, b"Written at 2:");
-    written(3, b"Written at 3:");
+    )?;
+    body(&rt, "Nothing at all:", b"")?;
+    written(&rt, 0, "Written at 0:")?;
+    written(&rt, 1, "Written at 1:")?;
+    written(&rt, 2, "Written at 2:")?;
+    written(&rt, 3, "Written at 3:")
 }

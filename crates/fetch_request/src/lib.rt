@@ -1,5 +1,7 @@
 // The Fetch request, versions 0 to 4: the partitions that a client asks for, written.
 // Numbers are cells, as in the tables: 64 bits, two's complement.
+#![tactic(auto)]
+
 use body_reading::versioned::Versioned;
 
 mod judge;
@@ -19,7 +21,7 @@ pub struct RequestBody {
 }
 
 // The numbers in front of the topics as they are written, none of them unset. `limited`: the version has max bytes; `isolated`: it has an isolation level.
-#[derive(Drop)]
+#[derive(Clone, Copy)]
 pub(crate) struct Own {
     pub limited: bool,
     pub isolated: bool,

@@ -1,5 +1,7 @@
 // The Fetch response, versions 0 to 4, read into three tables: topics with their partitions, and these with their aborted transactions.
 // Numbers are cells, as in the tables: 64 bits, two's complement.
+#![tactic(auto)]
+
 use body_reading::versioned::Versioned;
 use primitives::Refusal;
 

@@ -1,5 +1,7 @@
 // Frames: a size of four bytes, a header, and a body that is not read. Read and written, with Kafka's request headers 1 and 2 and response headers 0 and 1.
 // Numbers are cells, as in the tables: 64 bits, two's complement. Places count from the frame's first byte.
+#![tactic(auto)]
+
 use primitives::{Field, Refusal};
 
 mod numbers;
@@ -11,7 +13,7 @@ pub use reading::{read_request, read_response};
 pub use writing::{write_request, write_response};
 
 // The row of a request header, under the names of Kafka's guide. `tags` is how many there are, the cell of -1 where they are unset or absent.
-#[derive(Drop)]
+#[derive(Clone, Copy)]
 pub struct RequestHeader {
     pub request_api_key: u64,
     pub request_api_version: u64,
@@ -21,7 +23,7 @@ pub struct RequestHeader {
 }
 
 // The row of a response header.
-#[derive(Drop)]
+#[derive(Clone, Copy)]
 pub struct ResponseHeader {
     pub correlation_id: u64,
     pub tags: u64,

@@ -1,7 +1,9 @@
-// The C interface, what all of its answers begin with: number, place and need. The entry points have crates of their own: `gateway_primitives`, and one for each message.
+// The C interface, what all of its answers begin with: number, place and need. The entry points have crates of their own: `gateway_primitives`, and one for each message. `gateway_c` exports them to C.
 // Each call of the library is there with numbers and slices alone, and each answer is a struct of numbers. A cell is 64 bits, two's complement.
 // Where a struct has `number` 0 the call accepted, and `place` and `need` are 0;
 // else it refused with that number of docs/RULES.md, section 10, at that place, and every other field is 0.
+#![tactic(auto)]
+
 ghost use Rattle.std.specs.Prelude.{◌≡◌, []};
 ghost use Rattle.layout.specs.Answers.{accepted, refused};
 ghost use Rattle.primitives.specs.Answers.{of_refusal};

@@ -17,8 +17,7 @@ fn agreed(items: &[u64]) -> [i64; 9]
 }
 
 // The first row of a key decides; the choice is the highest common version, -1 if there is none; a key that is not listed has the maximum -1.
-#[unsafe(no_mangle)]
-pub extern "C" fn befrolan_agree(items: &[u64], rows: &mut [i64; 9])
+pub fn befrolan_agree(items: &[u64], rows: &mut [i64; 9])
     ensures { rows.new ≡ agreed_numbers items.now }
 {
     *rows = agreed(items);

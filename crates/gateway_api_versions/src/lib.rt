@@ -1,4 +1,5 @@
 // The C interface to ApiVersions bodies and to version agreement: each answer as a struct of numbers, of the form that crates/gateway/src/lib.rt has.
+#![tactic(auto)]
 
 pub mod agreement;
 pub mod request;

@@ -80,8 +80,7 @@ fn reply(r: RequestReply) -> RequestNumbers
     }
 }
 
-#[unsafe(no_mangle)]
-pub extern "C" fn befrolan_read_api_versions_request(
+pub fn befrolan_read_api_versions_request(
     msg: &[u8],
     version: i64,
     tags: &mut [u64],
@@ -117,8 +116,7 @@ fn body_of(row: &[u64; 7]) -> RequestBody
 }
 
 // `body` is the own row; `tags` is the table; texts and data are parts of `lent`.
-#[unsafe(no_mangle)]
-pub extern "C" fn befrolan_write_api_versions_request(
+pub fn befrolan_write_api_versions_request(
     out: &mut [u8],
     version: i64,
     lent: &[u8],

@@ -50,8 +50,7 @@ fn reply(r: ResponseReply) -> ResponseNumbers
 }
 
 // A prefix read where `whole` is 0, else a whole one, as the answer to a request at that version is read.
-#[unsafe(no_mangle)]
-pub extern "C" fn befrolan_read_api_versions_response(
+pub fn befrolan_read_api_versions_response(
     msg: &[u8],
     version: i64,
     whole: u64,
@@ -80,8 +79,7 @@ fn body_of(row: &[u64; 5]) -> ResponseBody
 }
 
 // `body` is the own row; `items` and `tags` are the tables; data are parts of `lent`.
-#[unsafe(no_mangle)]
-pub extern "C" fn befrolan_write_api_versions_response(
+pub fn befrolan_write_api_versions_response(
     out: &mut [u8],
     version: i64,
     lent: &[u8],

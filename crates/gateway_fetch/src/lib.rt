@@ -1,4 +1,6 @@
 // The C interface to Fetch bodies: each answer as a struct of numbers, of the form that crates/gateway/src/lib.rt has.
+#![tactic(auto)]
+
 use gateway::Numbers;
 
 pub mod request;

@@ -24,8 +24,7 @@ fn body_of(row: &[u64; 8]) -> RequestBody
 }
 
 // `body` is the own row; `topics` has a row of start and length of each name, which is a part of `lent`, and number of partitions; `partitions` one of index, offset and max bytes.
-#[unsafe(no_mangle)]
-pub extern "C" fn befrolan_write_fetch_request(
+pub fn befrolan_write_fetch_request(
     out: &mut [u8],
     version: i64,
     lent: &[u8],

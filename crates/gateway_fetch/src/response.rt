@@ -37,8 +37,7 @@ fn reply(r: ResponseReply) -> FetchNumbers
     }
 }
 
-#[unsafe(no_mangle)]
-pub extern "C" fn befrolan_read_fetch_response(
+pub fn befrolan_read_fetch_response(
     msg: &[u8],
     version: i64,
     topics: &mut [u64],

@@ -58,12 +58,7 @@ fn reply(r: RequestFrame) -> RequestFrameNumbers
     }
 }
 
-#[unsafe(no_mangle)]
-pub extern "C" fn befrolan_read_request_frame(
-    msg: &[u8],
-    header: i64,
-    tags: &mut [u64],
-) -> RequestFrameNumbers
+pub fn befrolan_read_request_frame(msg: &[u8], header: i64, tags: &mut [u64]) -> RequestFrameNumbers
     ensures { (result, tags.new ∷ []) ≡ told request_frame_numbers (frame_read Headers.request header (tags.old ∷ []) msg.now) }
 {
     reply(frame::read_request(msg, header, tags))
@@ -100,8 +95,7 @@ fn header_of(row: &[u64; 7]) -> RequestHeader
 }
 
 // `row` is the header's row; `tags` is the table; client name and data are parts of `lent`; `body` goes into the frame as it is.
-#[unsafe(no_mangle)]
-pub extern "C" fn befrolan_write_request_frame(
+pub fn befrolan_write_request_frame(
     out: &mut [u8],
     header: i64,
     lent: &[u8],

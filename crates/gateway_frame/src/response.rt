@@ -37,8 +37,7 @@ fn reply(r: ResponseFrame) -> ResponseFrameNumbers
     }
 }
 
-#[unsafe(no_mangle)]
-pub extern "C" fn befrolan_read_response_frame(
+pub fn befrolan_read_response_frame(
     msg: &[u8],
     header: i64,
     tags: &mut [u64],
@@ -60,8 +59,7 @@ fn header_of(row: &[u64; 2]) -> ResponseHeader
 }
 
 // `row` is the header's row; `tags` is the table, with data in `lent`; `body` goes into the frame as it is.
-#[unsafe(no_mangle)]
-pub extern "C" fn befrolan_write_response_frame(
+pub fn befrolan_write_response_frame(
     out: &mut [u8],
     header: i64,
     lent: &[u8],

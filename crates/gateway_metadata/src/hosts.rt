@@ -39,8 +39,7 @@ fn reply(h: Host) -> HostNumbers
 }
 
 // `node` is a cell, as in the table of brokers.
-#[unsafe(no_mangle)]
-pub extern "C" fn befrolan_find_host(msg: &[u8], version: i64, node: u64) -> HostNumbers
+pub fn befrolan_find_host(msg: &[u8], version: i64, node: u64) -> HostNumbers
     ensures { result ≡ host_numbers (lookup node version msg.now) }
 {
     reply(metadata_lookup::host_of(msg, version, node))

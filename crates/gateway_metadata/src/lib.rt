@@ -1,4 +1,6 @@
 // The C interface to Metadata bodies and to the lookup of a host: each answer as a struct of numbers, of the form that crates/gateway/src/lib.rt has.
+#![tactic(auto)]
+
 use gateway::Numbers;
 
 pub mod hosts;

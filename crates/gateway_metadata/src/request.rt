@@ -32,8 +32,7 @@ fn body_of(row: &[u64; 3]) -> RequestBody
 }
 
 // `body` is the own row; `topics` has a row of start and length of each name, which is a part of `lent`.
-#[unsafe(no_mangle)]
-pub extern "C" fn befrolan_write_metadata_request(
+pub fn befrolan_write_metadata_request(
     out: &mut [u8],
     version: i64,
     lent: &[u8],

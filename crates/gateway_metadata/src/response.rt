@@ -51,8 +51,7 @@ fn reply(r: ResponseReply) -> MetadataNumbers
     }
 }
 
-#[unsafe(no_mangle)]
-pub extern "C" fn befrolan_read_metadata_response(
+pub fn befrolan_read_metadata_response(
     msg: &[u8],
     version: i64,
     brokers: &mut [u64],

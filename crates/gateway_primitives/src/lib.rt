@@ -1,4 +1,5 @@
 // The C interface to what is no message of its own: primitives by their kind, tagged fields, and the text check. Each answer is a struct of numbers, of the form that crates/gateway/src/lib.rt has.
+#![tactic(auto)]
 
 pub mod kinds;
 pub mod primitive;

@@ -41,16 +41,14 @@ fn reply(r: Reply) -> PrimitiveNumbers
     }
 }
 
-#[unsafe(no_mangle)]
-pub extern "C" fn befrolan_read_primitive(msg: &[u8], kind: u64) -> PrimitiveNumbers
+pub fn befrolan_read_primitive(msg: &[u8], kind: u64) -> PrimitiveNumbers
     ensures { result ≡ primitive_numbers (read_kind kind msg.now) }
 {
     reply(read_kind::primitive(msg, kind))
 }
 
 // `value` is the cell of a number, or a count; `content` is a text or data; `null` is not 0 for null, where the kind has one.
-#[unsafe(no_mangle)]
-pub extern "C" fn befrolan_write_primitive(
+pub fn befrolan_write_primitive(
     out: &mut [u8],
     kind: u64,
     null: u64,

@@ -31,16 +31,14 @@ fn reply(r: Tagged) -> TagsNumbers
     }
 }
 
-#[unsafe(no_mangle)]
-pub extern "C" fn befrolan_read_tagged_fields(msg: &[u8], table: &mut [u64]) -> TagsNumbers
+pub fn befrolan_read_tagged_fields(msg: &[u8], table: &mut [u64]) -> TagsNumbers
     ensures { (result, table.new ∷ []) ≡ told tags_numbers (prefix_read tags_alone (pos 0) (table.old ∷ []) msg.now) }
 {
     reply(tagged_fields::reading::tagged_fields(msg, table))
 }
 
 // `count` is the number of tags, the cell of -1 for unset; data are parts of `lent`.
-#[unsafe(no_mangle)]
-pub extern "C" fn befrolan_write_tagged_fields(
+pub fn befrolan_write_tagged_fields(
     out: &mut [u8],
     lent: &[u8],
     count: u64,

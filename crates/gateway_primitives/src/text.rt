@@ -2,8 +2,7 @@
 ghost use Rattle.std.specs.Prelude.{◌≡◌};
 ghost use Rattle.layout.specs.Utf8.{well_formed};
 
-#[unsafe(no_mangle)]
-pub extern "C" fn befrolan_well_formed(text: &[u8]) -> u64
+pub fn befrolan_well_formed(text: &[u8]) -> u64
     ensures { result ≡ well_formed text.now }
 {
     utf8::well_formed(text) as u64

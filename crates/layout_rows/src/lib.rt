@@ -1,10 +1,12 @@
 // The layouts of all messages and headers as rows, from the tables of Kafka's guide, one field a line.
 // A list of fields ends at `End`. Each message is followed by the lists of its elements. That the rows are the definition's layouts at every version is proved (proofs/Guide.antt).
+#![tactic(auto)]
+
 ghost use Rattle.std.specs.Prelude.{◌≡◌};
 ghost use Rattle.layout_rows.specs.Rows.{row_at};
 
 // What a field is, by the guide's names. `Level`: an isolation level, an INT8 that is 0 or 1. `Data`: the data of a tag.
-#[derive(Drop)]
+#[derive(Clone, Copy)]
 pub enum Kind {
     Int16,
     Int32,
@@ -19,7 +21,7 @@ pub enum Kind {
 }
 
 // How the number of an array's elements is carried. A null array is read as empty (`Items`), or null is a value of its own (`NullableItems`). `Tags`: tagged fields, which have no null.
-#[derive(Drop)]
+#[derive(Clone, Copy)]
 pub enum Many {
     Items,
     NullableItems,
@@ -27,7 +29,7 @@ pub enum Many {
 }
 
 // A row of a list of fields.
-#[derive(Drop)]
+#[derive(Clone, Copy)]
 pub enum Row {
     // kind, first and last version
     Field(Kind, u64, u64),

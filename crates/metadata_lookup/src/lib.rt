@@ -1,5 +1,7 @@
 // What is looked up in a message read as a Metadata response: the host of a node.
 // The whole message is checked first; then the brokers are searched, up to the first with that node.
+#![tactic(auto)]
+
 ghost use Rattle.std.specs.Prelude.{[], ◌≡◌};
 ghost use Rattle.layout.specs.Lookup.{lookup};
 ghost use Rattle.layout.specs.Reading.{many};

@@ -1,5 +1,6 @@
 // The Metadata request, versions 0 to 4: the topics that a client asks for, written.
 // Numbers are cells, as in the tables: 64 bits, two's complement.
+#![tactic(auto)]
 
 mod judge;
 mod writing;

@@ -1,5 +1,7 @@
 // The Metadata response, versions 0 to 4, read into five tables: brokers, and topics with their partitions, and these with their replicas.
 // Numbers are cells, as in the tables: 64 bits, two's complement.
+#![tactic(auto)]
+
 use body_reading::versioned::Versioned;
 use primitives::{Field, Refusal};
 

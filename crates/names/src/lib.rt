@@ -1,4 +1,6 @@
 // The name of a refusal: the message, and the row and the field in which its place lies. What every walk to that field shares; it is asked for only where a call refuses.
+#![tactic(auto)]
+
 ghost use Rattle.std.specs.Prelude.{◌≡◌, []};
 ghost use Rattle.layout.specs.Names.{fieldless};
 ghost use Rattle.layout.specs.Reading.{naming, nowhere};

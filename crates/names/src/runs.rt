@@ -31,7 +31,7 @@ fn advance(begun: &mut [u64], t: usize, n: u64)
 }
 
 // What the elements of an array are.
-#[derive(Drop)]
+#[derive(Clone, Copy)]
 pub enum Element {
     Int32,
     Int64Pair,

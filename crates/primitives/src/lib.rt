@@ -1,5 +1,7 @@
 // A primitive read at the front of what is left of a message; and what all calls share: refusals, versions, and the size that is taken.
 // `numbers`, `lengths`, `parts` and `texts` read, `shown` hands out a part of a message. Each primitive by itself, with the message's size checked first, is in `primitives_calls`.
+#![tactic(auto)]
+
 ghost use Rattle.std.specs.Prelude.{◌≡◌};
 ghost use Rattle.layout.specs.Reading.{because, no_room};
 ghost use Rattle.primitives.specs.Answers.{is_set, of_refusal, version_of};
@@ -46,7 +48,7 @@ pub const MINUS_ONE: u64 = 18446744073709551615;
 pub const MOST: usize = 1048576;
 
 // Why a call refuses: the number, the place in the message, and for NO_ROOM the rows or bytes needed.
-#[derive(Drop)]
+#[derive(Clone, Copy)]
 pub struct Refusal {
     pub number: u8,
     pub place: usize,
@@ -135,7 +137,7 @@ pub enum Part {
 }
 
 // A text or data that a version may lack and that may be null.
-#[derive(Drop)]
+#[derive(Clone, Copy)]
 pub enum Field {
     Absent,
     Null,

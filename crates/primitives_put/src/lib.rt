@@ -1,6 +1,8 @@
 // A primitive written into what is left of an output; and what a call that writes replies.
 // Each writer is lent the rest of the output after what was written before it, and its promise speaks of that part.
 // It stores its bytes at the front where all of them fit, and nothing where they do not, and always says how many they are.
+#![tactic(auto)]
+
 ghost use Rattle.std.specs.Prelude.{◌≡◌, ◌++◌, drop, length, take, ◌+◌, ◌≤◌, min};
 ghost use Rattle.layout.specs.Primitives.{bytes, flag_bytes, length_bytes, null_bytes, unsigned_bytes};
 ghost use Rattle.primitives_put.specs.Step.{cap};
@@ -11,7 +13,7 @@ use primitives::{MOST, Refusal};
 pub mod replies;
 
 // How a length or count is carried: as a signed number of so many bits, −1 for null; or one more than it as an unsigned varint, 0 for null.
-#[derive(Drop)]
+#[derive(Clone, Copy)]
 pub enum Form {
     Int16,
     Int32,

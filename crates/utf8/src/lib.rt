@@ -1,4 +1,6 @@
 // The text check: how much of a text is well-formed UTF-8, and whether all of it is.
+#![tactic(auto)]
+
 mod classes;
 
 ghost use Rattle.std.specs.Prelude.{[], ◌∷◌, ◌≡◌, ◌+◌, ◌<◌, ◌≤◌, length, drop};

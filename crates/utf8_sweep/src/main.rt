@@ -1,8 +1,10 @@
 // Goes through short strings of bytes and tells, for each kind, how many are text, and a digest of the lengths of
 // their well-formed beginnings. expected.py has what it must write from another decoder.
+#![tactic(auto)]
+
 ghost use Rattle.std.specs.Prelude.{◌<◌, ◌≤◌};
 
-use libc::STDOUT_FILENO;
+use std::io;
 
 #[derive(Drop)]
 pub struct Tally {
@@ -43,11 +45,9 @@ fn short(from: usize, end: u64) -> Tally
     requires { (from ≤ 3) × (end ≤ 16777216) }
 {
     let mut t = none();
-    let mut i: u64 = 0;
-    while i < end {
+    for i in 0..end {
         let s = [(i / 65536) as u8, (i / 256 % 256) as u8, (i % 256) as u8];
         t = counted(t, &s[from..]);
-        i = i + 1;
     }
     t
 }
@@ -76,11 +76,9 @@ fn quad(i: u64) -> [u8; 4]
 
 fn quads() -> Tally {
     let mut t = none();
-    let mut i: u64 = 0;
-    while i < 66528 {
+    for i in 0..66528 {
         let s = quad(i);
         t = counted(t, &s);
-        i = i + 1;
     }
     t
 }
@@ -100,29 +98,21 @@ fn placed(i: u64, at: usize) -> [u8; 20]
 
 fn long() -> Tally {
     let mut t = none();
-    let mut i: u64 = 0;
-    while i < 1130976 {
+    for i in 0..1130976 {
         let s = placed(i / 17, (i % 17) as usize);
         t = counted(t, &s);
-        i = i + 1;
     }
     t
 }
 
-fn told(what: &[u8], t: Tally) {
-    io::write_all(STDOUT_FILENO, what);
-    io::print_decimal(STDOUT_FILENO, t.good);
-    io::write_all(STDOUT_FILENO, b" of ");
-    io::print_decimal(STDOUT_FILENO, t.seen);
-    io::write_all(STDOUT_FILENO, b", digest ");
-    io::print_decimal(STDOUT_FILENO, t.digest);
-    io::write_all(STDOUT_FILENO, b"\n");
+fn told(rt: &impl Print, what: &str, t: Tally) -> io::Result<()> {
+    println!(rt; "{what}: {} of {}, digest {}", t.good, t.seen, t.digest)
 }
 
-fn main() {
-    told(b"one byte: ", short(2, 256));
-    told(b"two bytes: ", short(1, 65536));
-    told(b"three bytes: ", short(0, 16777216));
-    told(b"four bytes: ", quads());
-    told(b"twenty bytes: ", long());
+fn main(rt: HostRuntime) -> io::Result<()> {
+    told(&rt, "one byte", short(2, 256))?;
+    told(&rt, "two bytes", short(1, 65536))?;
+    told(&rt, "three bytes", short(0, 16777216))?;
+    told(&rt, "four bytes", quads())?;
+    told(&rt, "twenty bytes", long())
 }

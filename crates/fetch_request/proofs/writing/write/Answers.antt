@@ -1,0 +1,11 @@
+-- A version that is not known is refused, and at every other the promise is that of the walk.
+use Rattle.primitives.proofs.Versions.{passed, unwritten}
+use Rattle.fetch_request.proofs.Call.{request_written}
+use native.Mathlib.Omega.{arith}
+use Rattle.fetch_request.proofs.writing.write.Goals as goal
+
+pub returns-then-v-gt4 : goal.returns-then-v-gt4
+returns-then-v-gt4 c = unwritten _ _ _ (passed _ c.ranges.version _ c.version_of-v.ensures) c.if-v-gt4.true _ _ _ _ c.at.ensures
+
+pub returns : goal.returns
+returns c = request_written c.args.lent.now _ _ _ _ c.args.topics.now c.args.partitions.now _ (omega arith) _ c.if-v-gt4.false c.args.body.max_bytes c.args.body.isolation _ (passed _ c.ranges.version _ c.version_of-v.ensures) _ c.given-largest.ensures _ c.given-level.ensures _ c.written.ensures

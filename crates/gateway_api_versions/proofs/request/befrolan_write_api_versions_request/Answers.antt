@@ -1,0 +1,8 @@
+-- The numbers of what the write promises, at the version that was passed on and for the row that was lent.
+use Rattle.layout.specs.Messages.ApiVersions as Api
+use Rattle.gateway.proofs.Told.{write_told}
+use Rattle.gateway.specs.Replies.{numbers}
+use Rattle.gateway_api_versions.proofs.request.befrolan_write_api_versions_request.Goals as goal
+
+pub returns : goal.returns
+returns c = write_told numbers _ _ c.written.ensures Api.request _ c.ranges.version _ _ _ _ _ _ c.body_of.ensures c.write.ensures

@@ -1,0 +1,11 @@
+-- The numbers of what the write promises, at the version that was passed on and for the row that was lent.
+use Rattle.layout.specs.Messages.Metadata as Meta
+use Rattle.gateway.proofs.Told.{write_told}
+use Rattle.gateway.specs.Replies.{numbers}
+use Rattle.gateway_metadata.proofs.request.befrolan_write_metadata_request.Statement.{
+  statement,
+}
+use Rattle.gateway_metadata.proofs.request.befrolan_write_metadata_request.Goals as goal
+
+pub returns : goal.returns
+returns c = write_told numbers _ _ c.written.ensures Meta.request _ c.ranges.version _ _ _ _ _ _ c.body_of.ensures c.write.ensures

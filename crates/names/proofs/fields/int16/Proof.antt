@@ -1,9 +1,0 @@
--- A field ends where its reader does.
-use Rattle.names.proofs.Ends.{is_number}
-use Rattle.std.proofs.Common.{rules}
-use Rattle.names.proofs.fields.int16.Statement.{statement}
-use Rattle.names.proofs.fields.int16.Tie as tie
-
-pub int16-spec : {M : Type 1} → statement M
-int16-spec = tie.close (tie.spec
-    (λ c κs. search rules) (λ c κs. search rules) (λ c. search (rules, is_number)))

@@ -1,0 +1,7 @@
+-- The number of the width, looked at as a length.
+use Rattle.layout.specs.Primitives.{kept, w16}
+use Rattle.primitives.proofs.Behind.{length_is}
+use Rattle.primitives.proofs.lengths.length16.Goals as goal
+
+pub returns : goal.returns
+returns c = length_is w16 kept _ c.uint16.result _ c.uint16.ensures c.length.ensures

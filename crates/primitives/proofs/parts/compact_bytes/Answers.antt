@@ -1,0 +1,12 @@
+-- The length is read, and what stands behind it is what the field shows.
+use mathlib.Core.Bool.{false}
+use mathlib.Core.Path.{◌∙◌, refl}
+use Rattle.layout.specs.Primitives.{compact, length_of, never, unsigned}
+use Rattle.layout.specs.Read.{by_place, read_basic, read_blob}
+use Rattle.primitives.specs.Parts.{counted, data_behind}
+use Rattle.primitives.proofs.Behind.{shown_is}
+use Rattle.primitives.proofs.parts.compact_bytes.Goals as goal
+
+pub returns : goal.returns
+unfolding read_basic counted data_behind length_of
+returns c = c.data_of.ensures ∙ shown_is false (length_of unsigned (compact never)) _ (read_blob (by_place false)) false 6 c.compact_length.result c.compact_length.ensures _ refl

@@ -1,0 +1,15 @@
+use mathlib.Core.Path.{◌∙◌, ap, refl}
+use mathlib.Core.Bool.{false}
+use Rattle.layout.specs.Primitives.{fixed, kept, w32}
+use Rattle.layout.specs.Rows.{blob}
+use Rattle.layout.specs.Read.{by_place, read_basic}
+use Rattle.primitives.specs.Parts.{there}
+use Rattle.primitives.proofs.Alone.{alone_long, alone_is}
+use borrow.Author.Rules.{rules}
+use Rattle.primitives_calls.proofs.read.nullable_bytes.Goals as goal
+
+pub returns-then-msg-gt-MOST : goal.returns-then-msg-gt-MOST
+returns-then-msg-gt-MOST c = ap there (alone_long (read_basic (by_place false) (blob (fixed w32 kept))) _ _ c.at.ensures (search rules))
+
+pub returns : goal.returns
+returns c = c.nullable_bytes.ensures ∙ ap there (alone_is (read_basic (by_place false) (blob (fixed w32 kept))) _ (search rules) _ refl)

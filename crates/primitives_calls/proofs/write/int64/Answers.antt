@@ -1,0 +1,6 @@
+use Rattle.layout.specs.Primitives.{w64}
+use Rattle.primitives_calls.proofs.Passed.{integer_written_lem}
+use Rattle.primitives_calls.proofs.write.int64.Goals as goal
+
+pub returns : goal.returns
+returns c = integer_written_lem _ c.ranges.value _ _ w64 _ c.cell.ensures c.integer.ensures

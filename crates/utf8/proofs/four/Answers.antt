@@ -1,0 +1,19 @@
+-- Each way out is a law over the bytes behind the first.
+use borrow.Author.Rules.{rules}
+use Rattle.utf8.proofs.Steps.{bad_2, bad_3, bad_4, cut, whole_4}
+use Rattle.utf8.proofs.four.Goals as goal
+
+pub returns-then-s-at-lt4 : goal.returns-then-s-at-lt4
+returns-then-s-at-lt4 c = search (rules, cut)
+
+pub returns-then-between-3 : goal.returns-then-between-3
+returns-then-between-3 c = search (rules, whole_4)
+
+pub returns-else-between-3 : goal.returns-else-between-3
+returns-else-between-3 c = search (rules, bad_4)
+
+pub returns-else-between-2 : goal.returns-else-between-2
+returns-else-between-2 c = search (rules, bad_3)
+
+pub returns-else-between : goal.returns-else-between
+returns-else-between c = search (rules, bad_2)
