@@ -1,13 +1,15 @@
 """crates.txt: each crate with the crates that it depends on."""
+import os
 
 
 def listed():
     deps = {}
     with open("crates.txt") as lines:
         for line in lines:
-            name, colon, rest = line.split("#")[0].partition(":")
+            words, colon, rest = line.split("#")[0].partition(":")
             if colon:
-                deps[name.strip()] = rest.split()
+                # A static library has the word `staticlib` behind its name.
+                deps[words.split()[0]] = rest.split()
     return deps
 
 
@@ -25,3 +27,7 @@ def reached(named, deps):
 def resting(named, deps):
     """The named crates and all that rest on them, in the order of crates.txt."""
     return [c for c in deps if set(named) & set(reached([c], deps))]
+
+
+def is_program(crate):
+    return os.path.exists("crates/%s/src/main.rt" % crate)

@@ -104,23 +104,23 @@ def cells(table):
 
 def built(program):
     """Proves and builds a program, where it or a source is newer than the last time."""
-    stamp = ROOT / f"target/{program}.built"
-    binary = ROOT / "target/bin" / program
-    newest = max(f.stat().st_mtime for f in [ROOT / "crates.txt", *(ROOT / "crates").rglob("*")])
-    if binary.exists() and stamp.exists() and newest <= stamp.stat().st_mtime:
+    folder = ROOT / "crates" / program
+    binary = folder / "out" / program
+    sources = (f for part in ("src", "specs", "proofs") for f in (ROOT / "crates").glob(f"*/{part}/**/*"))
+    newest = max(f.stat().st_mtime for f in [ROOT / "crates.txt", *sources])
+    if binary.exists() and newest <= binary.stat().st_mtime:
         return binary
     need_kit()
     print(f"befrolan: proving and building {program}; {SOME_MINUTES}", file=sys.stderr)
-    made = subprocess.Popen([ROOT / "tools/rt", "check", program], cwd=ROOT, stdout=subprocess.PIPE, stderr=subprocess.STDOUT, text=True)
+    made = subprocess.Popen(["rt", "run"], cwd=folder, stdin=subprocess.DEVNULL, stdout=subprocess.DEVNULL, stderr=subprocess.PIPE, text=True)
     last = []
-    for line in made.stdout:
+    for line in made.stderr:
         last = (last + [line])[-20:]
         if line.startswith("rt: "):
             print("  " + line.rstrip(), file=sys.stderr, flush=True)
     if made.wait() != 0:
         sys.stderr.writelines(last)
         sys.exit(fail(f"{program} was not built"))
-    stamp.touch()
     return binary
 
 

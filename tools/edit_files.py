@@ -1,7 +1,6 @@
 """Must-fail edits: a line 'file:', then pairs of lines 'old:' and 'new:', as `rt must-fail` reads them. A line that starts otherwise is a comment."""
 import glob
 import os
-import re
 
 
 class BadEdit(Exception):
@@ -9,13 +8,8 @@ class BadEdit(Exception):
 
 
 def all_of(crate):
-    """The edits of a crate: those right under must-fail/, which `rt ci` tries from nothing, and the further ones."""
-    folder = "crates/%s/must-fail" % crate
-    return sorted(glob.glob(folder + "/*.edit")) + sorted(glob.glob(folder + "/further/*.edit"))
-
-
-def is_tried_by_rt(edit):
-    return os.path.basename(os.path.dirname(edit)) == "must-fail"
+    """The edits of a crate, which `rt ci` tries."""
+    return sorted(glob.glob("crates/%s/must-fail/*.edit" % crate))
 
 
 def label(edit):
@@ -70,49 +64,3 @@ def plant(edit, folder, within=OF_A_CRATE):
     for path, text in edited(edit, folder, within).items():
         with open(path, "w") as f:
             f.write(text)
-
-
-FUNCTION = re.compile(r'(?:pub(?:\(crate\))? )?(?:extern "C" )?fn (\w+)')
-
-
-def bodies(text):
-    """The functions of a source file as `rt fmt` lays it out: name, and where the lines of the body begin and end."""
-    at, name, start = 0, None, None
-    for line in text.splitlines(True):
-        head = FUNCTION.match(line)
-        if head:
-            name, start = head.group(1), None
-        if name and start is None and line.rstrip().endswith("{") and (head or line.startswith(("{", ") "))):
-            start = at + len(line)
-        elif name and start is not None and line.startswith("}"):
-            yield name, start, at
-            name = None
-        at += len(line)
-
-
-def function_of(edit, crate):
-    """Where the edit changes the body of one function and nothing else: the path of this function below the crate."""
-    found = set()
-    for at, old, _ in pairs(edit):
-        with open("crates/%s/%s" % (crate, at)) as f:
-            text = f.read()
-        start = text.index(old)
-        module = at.removeprefix("src/").removesuffix(".rt").split("/")
-        names = [n for n, first, end in bodies(text) if first <= start and start + len(old) <= end] if at.startswith("src/") else []
-        found.add(tuple([m for m in module if m not in ("lib", "main")] + names) if names else None)
-    return found.pop() if len(found) == 1 else None
-
-
-def called(crate):
-    """For each name of a function all names that it calls, through others too."""
-    calls = {}
-    for file in glob.glob("crates/%s/src/**/*.rt" % crate, recursive=True):
-        with open(file) as f:
-            text = f.read()
-        for name, start, end in bodies(text):
-            calls.setdefault(name, set()).update(re.findall(r"\b(\w+)\(", text[start:end]))
-    for through in calls:
-        for names in calls.values():
-            if through in names:
-                names |= calls[through]
-    return calls

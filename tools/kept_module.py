@@ -2,19 +2,18 @@
 import os
 import subprocess
 
-HOME = os.path.dirname(os.path.dirname(subprocess.run(["rt", "doc"], stdout=subprocess.PIPE, text=True, check=True).stdout.strip()))
-OWN = "%s/on/%s" % (HOME, os.uname().machine)
-CLANG = OWN + "/toolchain/bin/clang"
+HOME = os.path.dirname(subprocess.run(["rt", "doc"], stdout=subprocess.PIPE, text=True, check=True).stdout.strip())
+CLANG = HOME + "/toolchain/bin/clang"
 
 
 def toolchain(room):
     """The kit's toolchain as it is called here; room/module.bc will be the module of what is compiled for speed, as libraries and programs are."""
     own = room + "/toolchain"
     os.makedirs(own + "/bin")
-    os.symlink(OWN + "/toolchain/lib", own + "/lib")
-    for name in os.listdir(OWN + "/toolchain/bin"):
+    os.symlink(HOME + "/toolchain/lib", own + "/lib")
+    for name in os.listdir(HOME + "/toolchain/bin"):
         if name != "clang":
-            os.symlink("%s/toolchain/bin/%s" % (OWN, name), "%s/bin/%s" % (own, name))
+            os.symlink("%s/toolchain/bin/%s" % (HOME, name), "%s/bin/%s" % (own, name))
     with open(own + "/bin/clang", "w") as f:
         f.write('#!/bin/sh\ncase " $* " in *" -O3 "*) cp module.bc "%s/module.bc" ;; esac\nexec "%s" "$@"\n' % (room, CLANG))
     os.chmod(own + "/bin/clang", 0o755)

@@ -22,7 +22,7 @@ class Unreadable(Exception):
 
 
 def tokens(rows, first):
-    """The tokens of rows without comments; the first is that line of its file. `a.b` is a path, ` .b` a field, and the dot of `λ x. e` a mark."""
+    """The tokens of rows without comments; the first is that line of its file. `a.b` is a path, `.b` right behind a bracket a field, and the dot of `λ x. e` a mark."""
     words = []
     for line, row in enumerate(rows, first):
         end = -1
@@ -32,9 +32,11 @@ def tokens(rows, first):
     words.append((" ", 0, False))
     result, at = [], 0
     while words[at][0] != " ":
-        word, line, _ = words[at]
+        word, line, is_tight = words[at]
         at += 1
         if word == "." and words[at][2] and words[at][0] not in PUNCTUATION:
+            if not is_tight:
+                raise Unreadable("line %d: a field stands behind a space" % line)
             result.append(Token("field", bare(words[at][0]), line))
             at += 1
         elif word in PUNCTUATION:

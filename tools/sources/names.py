@@ -1,21 +1,25 @@
 """What names mean: `World` has all crates, `Scope` the names of a file, and `Names` reads the names of a definition or a contract."""
-import functools, glob, os
+import functools, glob, os, re, subprocess
 from collections import namedtuple
 from .antt import AnttFile, Group, Unreadable, is_word, nodes_of, place_of, split
 from .rattle import Declared, Function, RattleFile
 
-# the kit's libraries, as the first word of a `use` path
+# the kit's libraries under the logic, as the first word of a `use` path; those of Rattle's own begin with `Rattle` and their name, as ours do
 KIT = {"Prim", "mathlib", "lib", "native", "borrow", "mir"}
-# what stands in every file without a `use` line: syntax, and names of the prelude
+# what stands in every file without a `use` line: syntax, and names that are built in
 SYNTAX = {"→", "×", "=", ":", "_", "Type"}
-PRELUDE = {"Unit", "tt"}
+PRELUDE = {"Unit", "tt", "⊥", "¬", "absurd"}
+# types and traits of the kit's std that every source file has without a `use` line, as far as they are used here
+STD = {"AllocError", "Box", "Global", "HostRuntime", "Option", "Print", "Result", "String", "Vec"}
 # constructors of the kit's types; a pattern that names another name of the kit is refused
-KIT_CONSTRUCTORS = {"true", "false", "zero", "suc", "none", "some", "pos", "negsuc", "[]", "_∷_", "tt"}
-# what every clause of a contract is lent
-LENT = {"now", "⌜", "⌝"}
-LENT_FIELDS = {"entry", "exit"}
+KIT_CONSTRUCTORS = {"true", "false", "zero", "suc", "none", "some", "pos", "negsuc", "[]", "◌∷◌", "tt"}
+# where the arguments of an operator go, in its name
+HOLE = "◌"
+# what an `ensures` calls the reply, and what every clause is lent: what a reference points to, and for one that may be altered before and after the call
+REPLY = "result"
+LENT_FIELDS = {"now", "old", "new"}
 
-Kit = namedtuple("Kit", "module name")  # something of the kit's libraries
+Kit = namedtuple("Kit", "module name")  # something of the kit's libraries, by the module that declares it
 Target = namedtuple("Target", "thing constructor")  # what a name means: `thing`, or a constructor of it
 
 
@@ -27,7 +31,7 @@ class Scope:
         self.brought, self.modules = {}, {}
         for rows in file.uses if isinstance(file, AnttFile) else file.ghosts:
             self.use(rows)
-        self.parts = {part: name for name in self.brought if "_" in name for part in name.split("_") if part}
+        self.parts = {part: name for name in self.brought if HOLE in name for part in name.split(HOLE) if part}
 
     def use(self, rows):
         nodes = nodes_of(rows, 1)
@@ -56,7 +60,7 @@ class Scope:
         name = self.parts.get(name, name)
         if name in self.brought:
             return self.world.member(*self.brought[name], self.file)
-        return kit_target("Prim", name) if name in PRELUDE else None
+        return self.world.kit_target("Prim", name) if name in PRELUDE else None
 
     def path(self, parts):
         """What `a.b` means: a constructor behind its type, or a name behind a module."""
@@ -65,13 +69,9 @@ class Scope:
             return Target(target.thing, parts[1])
         if parts[0] in self.modules and len(parts) == 2:
             return self.world.member(self.modules[parts[0]], parts[1], self.file)
-        if parts[0].startswith("Rattle·") or parts[0] in KIT:
+        if parts[0] == "Rattle" or parts[0] in KIT:
             return self.world.member(self.world.module(parts[:-1], self.file), parts[-1], self.file)
         return None
-
-
-def kit_target(module, name):
-    return Target(Kit(module, name), name if name in KIT_CONSTRUCTORS else None)
 
 
 class Names:
@@ -110,8 +110,11 @@ class Names:
             bound |= set(member.names) if definition.kind == "record" else set()
 
     def contract(self, function):
-        for clause in function.requires + function.ensures:
-            self.term(clause, {name for name, _ in function.parameters} | LENT)
+        parameters = {name for name, _ in function.parameters}
+        for clause in function.requires:
+            self.term(clause, parameters)
+        for clause in function.ensures:
+            self.term(clause, parameters | {REPLY})
 
     def term(self, nodes, bound):
         """Reads a term or a type, in which `bound` are variables. What it binds itself reaches to the end of the nodes."""
@@ -258,12 +261,15 @@ class World:
     # ---- modules of antt
 
     def module(self, path, file):
-        head = path[0].split("·")
-        if head[0] != "Rattle":
-            if head[0] not in KIT:
+        if path[0] != "Rattle":
+            if path[0] not in KIT:
                 raise Unreadable("%s: `%s` is no library that is known" % (file.path, path[0]))
             return ".".join(path)
-        crate, part, rest = head[1], path[1], tuple(path[2:])
+        crate, part, rest = path[1], path[2], tuple(path[3:])
+        if crate not in self.crates:
+            if not os.path.isdir(os.path.join(self.kit, crate)):
+                raise Unreadable("%s: `%s` is no crate of ours and no library of the kit" % (file.path, ".".join(path)))
+            return ".".join(path)
         if part == "proofs" and "/proofs/" not in file.path:
             raise Unreadable("%s: it names %s, but no definition and no contract may rest on proofs/" % (file.path, ".".join(path)))
         if part == "specs" and rest[:1] == ("declared",):
@@ -276,7 +282,12 @@ class World:
     def member(self, module, name, file):
         """What a module has under a name."""
         if isinstance(module, str):
-            return kit_target(module, name)
+            return self.kit_target(module, name)
+        if isinstance(module, tuple) and module[1][-1] == "TheVariants":
+            found = self.declared(self.rattle(module[0], ()), module[1][:-1])
+            if found is None or name not in found.constructors:
+                raise Unreadable("%s: %s of crate %s has no variant `%s`" % (file.path, "::".join(module[1][:-1]), module[0], name))
+            return Target(found, name)
         if isinstance(module, tuple):
             found = self.declared(self.rattle(module[0], ()), module[1])
             if found is None or found.name != name:
@@ -288,6 +299,45 @@ class World:
             if name in definition.constructors:
                 return Target(definition, name)
         raise Unreadable("%s: %s has no `%s`" % (file.path, module.path, name))
+
+    # ---- the kit
+
+    @functools.cached_property
+    def kit(self):
+        """The folder of the kit's libraries."""
+        said = subprocess.run(["rt", "doc"], check=True, capture_output=True, text=True).stdout.strip()
+        return os.path.join(os.path.dirname(said), "rattle")
+
+    def kit_target(self, module, name):
+        return Target(Kit(*self.declaring(module, name)), name if name in KIT_CONSTRUCTORS else None)
+
+    @functools.lru_cache(maxsize=None)
+    def declaring(self, module, name):
+        """The module of the kit that declares a name, and the name there: the kit passes names on from module to module."""
+        parts = module.split(".")
+        if parts[0] != "Rattle":
+            return module, name
+        path = os.path.join(self.kit, *parts[1:]) + ".antt"
+        if os.path.exists(path):
+            given = self.passed_on(path)
+            return self.declaring(*given[name]) if name in given else (module, name)
+        above = os.path.join(self.kit, *parts[1:-1]) + ".antt"
+        rows = open(above, encoding="utf-8") if os.path.exists(above) else []
+        whole = [row.split()[2] for row in rows if re.fullmatch(r"pub use [^{}]*\.%s\s*" % re.escape(parts[-1]), row)]
+        if len(whole) != 1:
+            raise Unreadable("the kit has no module %s" % module)
+        return self.declaring(whole[0], name)
+
+    @functools.lru_cache(maxsize=None)
+    def passed_on(self, path):
+        """The names that a module of the kit passes on, and where each is from."""
+        found = {}
+        for module, names in re.findall(r"^pub use ([^\s{}]+)\.\{([^{}]*)\}", open(path, encoding="utf-8").read(), re.M):
+            for part in names.split(","):
+                words = part.split()
+                if words:
+                    found[words[-1]] = (module, words[0])
+        return found
 
     # ---- types and functions of the code
 
@@ -309,10 +359,16 @@ class World:
         """The structs and enums that a declaration, or a function's signature, mentions."""
         found = []
         for name in thing.types:
-            found.append(self.declared(thing.file, name.split("::")))
+            path = name.split("::")
+            found.append(self.declared(thing.file, path) or self.of_std(thing.file, path))
             if found[-1] is None:
                 raise Unreadable("%s:%d: what type is `%s`?" % (thing.file.path, thing.first, name))
         return found
+
+    def of_std(self, file, path):
+        """The type of the kit's std that a path names, seen from a file; None if it is none."""
+        whole = file.uses.get(path[0], ["std"] if path[0] in STD else []) + path[1:]
+        return Kit(".".join(whole[:-1] if whole[1:] else whole), path[-1]) if whole[:1] == ["std"] else None
 
     def functions(self, crate):
         return [function for file in self.rattle_files(crate) for function in file.functions]

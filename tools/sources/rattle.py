@@ -2,7 +2,7 @@
 import re
 from .antt import Unreadable, nodes_of
 
-NUMBERS = {"u8", "u16", "u32", "u64", "usize", "i8", "i16", "i32", "i64", "isize", "f32", "f64", "bool"}
+NUMBERS = {"u8", "u16", "u32", "u64", "usize", "i8", "i16", "i32", "i64", "isize", "f32", "f64", "bool", "char", "str"}
 PUB = r"^(pub |pub\(crate\) )?"
 CLOSING = {"(": ")", "{": "}", "[": "]"}
 
@@ -10,7 +10,7 @@ CLOSING = {"(": ")", "{": "}", "[": "]"}
 def type_names(text):
     """The names of structs and enums in types; those in front of a colon are names of fields."""
     found = re.findall(r"(?<![\w'])[A-Za-z_]\w*(?:::\w+)*", re.sub(r"\w+\s*:(?!:)", " ", text))
-    return [name for name in found if name not in NUMBERS and name not in ("mut", "pub") and not name.isupper()]
+    return [name for name in found if name not in NUMBERS and name not in ("dyn", "impl", "mut", "pub") and not name.isupper()]
 
 
 def closing(text, at):
@@ -21,6 +21,25 @@ def closing(text, at):
         if depth == 0:
             return i
     raise Unreadable("a bracket is not closed")
+
+
+def each_use(text):
+    """The paths of a `use` line, each by itself: `a::{b, c::d}` has a::b and a::c::d."""
+    head, brace, rest = text.partition("{")
+    if not brace:
+        return [text.strip()] if text.strip() else []
+    end = closing(brace + rest, 0)
+    if (brace + rest)[end + 1 :].strip():
+        raise Unreadable("a `use` line is not read: %s" % text)
+    parts, depth = [""], 0
+    for letter in (brace + rest)[1:end]:
+        depth += (letter == "{") - (letter == "}")
+        if letter == "," and depth == 0:
+            parts.append("")
+        else:
+            parts[-1] += letter
+    found = [inner for part in parts for inner in each_use(part)]
+    return [head.strip() + inner if inner != "self" else head.strip().removesuffix("::") for inner in found]
 
 
 def without_brackets(text):
@@ -70,11 +89,12 @@ class RattleFile:
         if mark == "ghost ":
             self.ghosts.append(("use " + text).split("\n"))
             return
-        path, _, other = text.partition(" as ")
-        path = path.strip().split("::")
-        self.uses[other.strip() or path[-1]] = path
-        if mark:
-            self.passed[path[-1]] = path[1:] if path[0] == "crate" else path
+        for one in each_use(" ".join(text.split())):
+            path, _, other = one.partition(" as ")
+            path = path.strip().split("::")
+            self.uses[other.strip() or path[-1]] = path
+            if mark:
+                self.passed[path[-1]] = path[1:] if path[0] == "crate" else path
 
     def line(self, at):
         return self.text.count("\n", 0, at) + 1
@@ -95,21 +115,25 @@ class RattleFile:
             yield Declared(self, match.group(2), match.group(3), first, lines, comments, self.text[match.end() : last])
 
     def read_functions(self):
-        for match in re.finditer(PUB + r"(extern \"C\" )?fn (\w+)\s*\(", self.text, re.M):
+        heads = list(re.finditer(PUB + r"(extern \"C\" )?fn (\w+)\s*\(", self.text, re.M))
+        if len(heads) < len(re.findall(r"\bfn \w", self.text)):
+            raise Unreadable("%s: a function in it is not read" % self.path)
+        for match in heads:
             end = closing(self.text, match.end() - 1)
             parts = [part.partition(":") for part in re.split(r",(?![^\[]*\])", self.text[match.end() : end])]
             parameters = [(name.strip().removeprefix("mut "), kind.strip()) for name, _, kind in parts if name.strip()]
             head = re.compile(r"\s*(?:->\s*(.*?))?\s*(?=requires\b|ensures\b|\{)", re.S).match(self.text, end + 1)
             clauses = self.clauses(match.group(3), head.end())
             line = self.line(match.start())
-            is_entry = "#[no_mangle]" in self.code[self.above(line) - 1 : line]
+            is_entry = "#[unsafe(no_mangle)]" in self.code[self.above(line) - 1 : line]
             yield Function(self, match.group(3), line, match.group(1) == "pub ", is_entry, parameters, (head.group(1) or "").strip(), *clauses)
 
     def clauses(self, name, at):
         """The clauses of a contract, which begins there: those of `requires`, and those of `ensures`."""
         found = {"requires": [], "ensures": []}
         while not self.text.startswith("{", at):
-            word = re.compile(r"(requires|ensures)\s*\{").match(self.text, at)
+            # A clause may have a name. What holds of memory, with a star, is not read.
+            word = re.compile(r"(requires|ensures)(?: +\w+)?\s*\{").match(self.text, at)
             if not word:
                 raise Unreadable("%s:%d: the contract of %s is not read" % (self.path, self.line(at), name))
             end = closing(self.text, word.end() - 1)
