@@ -2,21 +2,21 @@
 -- body that refuse with one number at one place name one row and one field.
 use mathlib.Core.Bool.{Bool, ◌||◌, cond, false, true}
 use mathlib.Core.List.{List, [], ◌∷◌}
-use mathlib.Core.Path.{◌∙◌, ◌≡◌, ap, refl, subst, sym}
-use Prim.Native.Nat.{◌+◌, ◌<◌, ◌≤◌, suc, zero, ℕ}
+use mathlib.Core.Path.{◌∙◌, ◌≡◌, ap, refl, sym}
+use Prim.Native.Nat.{◌+◌, ◌<◌, ◌≤◌, ℕ}
 use native.Mathlib.Omega.{arith}
-use lib.Dec.{eqb, leb, ltb}
+use lib.Dec.{leb, ltb}
 use lib.IntN.{ℤ, negsuc, pos}
 use lib.ListN.{drop, length, take}
 use lib.Seq.{length-take-le}
 use borrow.Author.Tests.{leb-false}
-use Rattle.layout.specs.Reading.{Reader, Refusal, Res, bad, because, more, naming, nowhere, ok, then}
+use Rattle.layout.specs.Reading.{Refusal, Res, bad, because, more, naming, nowhere, ok}
 use Rattle.layout.specs.Primitives.{be, cell, cell_of, int, signed, w32}
-use Rattle.layout.specs.Read.{by_place, read_basic}
+use Rattle.layout.specs.Read.{read_basic}
 use Rattle.layout.specs.Rows.{Shape, field, number}
 use Rattle.layout.specs.Tables.{Tables, append, cells, read_rows}
-use Rattle.layout.specs.Names.{fieldless, name_at, name_by, seek}
-use Rattle.layout.specs.Answers.{Message, ended, most, named, no_rows, none_yet, seen, shape}
+use Rattle.layout.specs.Names.{Sought, blame, blamed, fieldless, name_at, name_by, name_fault, past, seek, there}
+use Rattle.layout.specs.Answers.{Message, ended, meant, most, named, named_fault, no_rows, none_yet, seen, shape}
 use Rattle.layout.specs.Messages.ApiVersions as Api
 use Rattle.layout.specs.Messages.Fetch as Fetch
 use Rattle.layout.specs.Messages.Headers as Headers
@@ -24,6 +24,7 @@ use Rattle.layout.specs.Messages.Metadata as Metadata
 use Rattle.layout.specs.Frames.{Header, frame_bytes, frame_named, frame_seen, frame_size, in_frame, size_of, with_body, with_size}
 use Rattle.layout.proofs.Found.{Stops, reading, right}
 use Rattle.layout.proofs.Frames.{number_is, size_inv, sized_shape}
+use Rattle.layout.proofs.Refusals.{Refuses}
 use Rattle.layout.proofs.Steps.{by_result, int_bad, not_ok, then_bad, then_ok}
 use Rattle.layout.proofs.Tests.{by_test, lt-false, lt-true, of_le}
 
@@ -54,6 +55,77 @@ module _ {A X : Type 0} (e : Refusal) (h : fieldless e.number ≡ false) where
 -- every table has its count
 few_tables : ((Api.request).tables < 8) × ((Api.response).tables < 8) × ((Metadata.request).tables < 8) × ((Metadata.response).tables < 8) × ((Fetch.request).tables < 8) × ((Fetch.response).tables < 8) × ((Headers.request).rows.tables < 8) × ((Headers.response).rows.tables < 8)
 few_tables = (omega arith, omega arith, omega arith, omega arith, omega arith, omega arith, omega arith, omega arith)
+
+-- ---- the rest of a refusal stays, and it is of message m; with a number that is of no field it has neither row nor field
+
+pub record Keeps (m : ℕ) (e has_name : Refusal) : Type 0 where
+  pub number_is : has_name.number ≡ e.number
+  pub place_is : has_name.place ≡ e.place
+  pub need_is : has_name.need ≡ e.need
+  pub message_is : has_name.message ≡ m
+  pub no_row : fieldless e.number ≡ true → has_name.row ≡ nowhere
+  pub no_field : fieldless e.number ≡ true → has_name.field ≡ nowhere
+
+keeps_none : (m : ℕ) (e : Refusal) → Keeps m e (naming m nowhere nowhere e)
+keeps_none m e = record { number_is = refl; place_is = refl; need_is = refl; message_is = refl; no_row = λ h. refl; no_field = λ h. refl }
+
+not_both : {X : Type 0} {b : Bool} → b ≡ true → b ≡ false → X
+not_both {b = b} h g = let z : ◌≡◌ {A = ℕ} 0 1 = cc in absurd (omega arith)
+
+keeps_field : (m r f : ℕ) (e : Refusal) → fieldless e.number ≡ false → Keeps m e (naming m r f e)
+keeps_field m r f e g = record { number_is = refl; place_is = refl; need_is = refl; message_is = refl; no_row = λ h. not_both h g; no_field = λ h. not_both h g }
+
+name_keeps : (m : ℕ) (l : Shape) (c : List ℕ) (p : ℕ) (s : List ℕ) (e : Refusal) → Keeps m e (name_at m l c p s e)
+unfolding name_at
+name_keeps m l c p s e = by_test (fieldless e.number || ltb e.place p) (λ d. rw d (keeps_none m e)) (λ d. rw d (of_walk (either (fieldless e.number) (ltb e.place p) d) (seek e.place l nowhere 0 c p s)))
+  where
+    either : (b a : Bool) → (b || a) ≡ false → b ≡ false
+    either true a d = d
+    either false a d = refl
+
+    of_walk : fieldless e.number ≡ false → (o : Res (List ℕ)) → Keeps m e (name_by m e o)
+    of_walk h (ok d n) = keeps_none m e
+    of_walk h (bad x) = keeps_field m x.row x.field e h
+
+pub named_keeps : (m : Message) (v : ℤ) (s : List ℕ) (e : Refusal) → Keeps m.number e (named m v s e)
+unfolding named
+named_keeps m (pos v) s e = name_keeps m.number (shape m v) none_yet 0 s e
+named_keeps m (negsuc v) s e = keeps_none m.number e
+
+pub frame_named_keeps : (h : Header) (v : ℤ) (s : List ℕ) (e : Refusal) → Keeps h.rows.number e (frame_named h v s e)
+unfolding frame_named
+frame_named_keeps h (pos v) s e = name_keeps h.rows.number (shape h.rows v) none_yet 4 (drop 4 (frame_bytes s (frame_size s))) e
+frame_named_keeps h (negsuc v) s e = keeps_none h.rows.number e
+
+pub named_fault_keeps : (m : Message) (v : ℤ) (lent : List ℕ) (st : Tables) (e : Refusal) → Keeps m.number e (named_fault m v lent st e)
+unfolding named_fault name_fault
+named_fault_keeps m (negsuc v) lent st e = keeps_none m.number e
+named_fault_keeps m (pos v) lent st e =
+    by_test (fieldless e.number) (λ d. rw d (keeps_none m.number e)) (λ d. rw d (of_walk d (blame e.number (shape m v) nowhere 0 none_yet (meant lent st (shape m v)))))
+  where
+    of_walk : fieldless e.number ≡ false → (o : Sought) → Keeps m.number e (blamed m.number e o)
+    of_walk h (there row f) = keeps_field m.number row f e h
+    of_walk h (past c) = keeps_none m.number e
+
+pub refuses_named : (top : ℕ) (s : List ℕ) {m : ℕ} {e has_name : Refusal} → Keeps m e has_name → Refuses top s e → Refuses top s has_name
+refuses_named top s k r = record { least = (let a = r.least in let b = k.number_is in omega arith); greatest = (let a = r.greatest in let b = k.number_is in omega arith); place_in = (let a = r.place_in in let b = k.place_is in omega arith); no_need = k.need_is ∙ r.no_need }
+
+-- ---- a number that is of no field
+
+pub no_field : (m : Message) (v : ℤ) (s : List ℕ) (e : Refusal) → fieldless e.number ≡ true → naming m.number nowhere nowhere e ≡ named m v s e
+unfolding named name_at
+no_field m (pos v) s e h = sym (rw h)
+no_field m (negsuc v) s e h = refl
+
+pub no_field_written : (m : Message) (v : ℤ) (lent : List ℕ) (st : Tables) (e : Refusal) → fieldless e.number ≡ true → naming m.number nowhere nowhere e ≡ named_fault m v lent st e
+unfolding named_fault name_fault
+no_field_written m (pos v) lent st e h = sym (rw h)
+no_field_written m (negsuc v) lent st e h = refl
+
+pub no_field_framed : (h : Header) (v : ℤ) (s : List ℕ) (e : Refusal) → fieldless e.number ≡ true → naming h.rows.number nowhere nowhere e ≡ frame_named h v s e
+unfolding frame_named name_at
+no_field_framed h (pos v) s e d = sym (rw d)
+no_field_framed h (negsuc v) s e d = refl
 
 -- ---- bodies
 
@@ -118,7 +190,7 @@ one_name m (negsuc v) s a b i j = record { same_row = refl; same_field = refl }
 -- ---- frames
 
 -- a size is refused at the frame's first byte
-size_place : (s : List ℕ) (e : Refusal) → frame_size s ≡ bad e → e.place ≡ 0
+pub size_place : (s : List ℕ) (e : Refusal) → frame_size s ≡ bad e → e.place ≡ 0
 unfolding frame_size cell
 size_place s e d = by_result (cell w32 0 s) (λ n k i. judge n k (rw i at d)) (λ c i. of_cell_lem c i (rw i at d))
   where
