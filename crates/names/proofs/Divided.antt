@@ -1,12 +1,12 @@
 -- Elements that are some numbers of one width each: which number a place lies in.
-use Rattle.std.proofs.Common.{◌≡◌, ℕ, zero, suc, ◌+◌, ◌-◌, ◌*◌, ◌/◌, ◌%◌, ◌^◌, ◌<◌, ◌≤◌, min, Bool, true, false, cond, ltb, ◌≢◌, List, [], ◌∷◌, length, get_or, take, drop, set, sym, refl, ap, ◌∙◌, subst, le_trans, add-zero, mul-le-mul_right, mod-eq_of_lt, mul_assoc, suc-mul, zero-add, zero-mul, div-le_self, div-mul-le_self, arith, length-drop, length-set, get_or-set_same, set-set}
+use Rattle.std.proofs.Common.{◌≡◌, ℕ, zero, suc, ◌+◌, ◌-◌, ◌*◌, ◌/◌, ◌%◌, ◌^◌, ◌<◌, ◌≤◌, min, true, false, cond, ltb, ◌≢◌, List, length, get_or, take, drop, set, sym, refl, ap, ◌∙◌, le_trans, add-zero, mul-le-mul_right, mod-eq_of_lt, mul_assoc, suc-mul, zero-add, zero-mul, div-le_self, div-mul-le_self, arith, length-drop, length-set, get_or-set_same, set-set}
 use native.Mathlib.Nat.{add-mod_right, add-mul-div_right, div-eq_of_lt, mod-add-mod}
-use Rattle.layout.specs.Reading.{Reader, Refusal, Res, bad, because, give, loop, more, ok, then}
-use Rattle.layout.specs.Primitives.{Width, be, cell, cell_of, int, signed, size}
-use Rattle.layout.specs.Rows.{Shape, end, field, number}
-use Rattle.layout.specs.Read.{by_place, read_basic}
+use Rattle.layout.specs.Reading.{Res, bad, because, give, loop, more, ok, then}
+use Rattle.layout.specs.Primitives.{Width, be, cell, cell_of, int, signed, size, w16, w32, w64, w8}
+use Rattle.layout.specs.Rows.{Shape, field, number}
+use Rattle.layout.specs.Read.{read_basic}
 use Rattle.layout.specs.Names.{begun, found, seek, stop}
-use Rattle.layout.proofs.Steps.{by_result, int_bad, int_ok, not_ok, then_bad, then_ok}
+use Rattle.layout.proofs.Steps.{int_bad, int_ok, then_bad, then_ok}
 use Rattle.layout.proofs.Tests.{by_test, lt-false, lt-true, of_ge, of_lt}
 use Rattle.body_reading.specs.Walk.{on}
 use Rattle.body_reading.proofs.Chains.{give_took, then_no, then_took}
@@ -35,6 +35,27 @@ module _ (w : Width) (s : List ℕ) (p : ℕ) where
   cut : length s - p < size w → bad (because 3 p) ≡ on (cell w) s p
   unfolding on cell
   cut h = let l = length-drop p s in sym (ap (more p) (then_bad (int (size w)) _ p (drop p s) (because 3 p) (int_bad (size w) p (drop p s) (omega arith))))
+
+-- ---- one number in front of others
+
+pub wide : (w : Width) → 0 < size w
+wide w8 = omega arith
+wide w16 = omega arith
+wide w32 = omega arith
+wide w64 = omega arith
+
+module _ (q row f : ℕ) (c s : List ℕ) (p : ℕ) (w : Width) (l : Shape) where
+  -- q lies in it, or it is cut
+  pub number_in : upto q s p < size w → bad (found row f) ≡ on (seek q (field (number w) l) row f c) s p
+  unfolding seek read_basic
+  number_in h =
+      then_no (stop q row f (cell w)) _ s p
+      (by_test (ltb (length s - p) (size w)) (λ t. stop_no q row f (cell w) s p (because 3 p) (cut w s p (of_lt (length s - p) (size w) t)))
+      (λ t. let y = there w s p (of_ge (length s - p) (size w) t) in stop_in q row f (cell w) s p y.value (p + size w) y.is (let g = of_ge (length s - p) (size w) t in omega arith)))
+
+  pub number_past : size w ≤ upto q s p → (z : Res (List ℕ)) → z ≡ on (seek q l row (suc f) c) s (p + size w) → z ≡ on (seek q (field (number w) l) row f c) s p
+  unfolding seek read_basic
+  number_past h z g = let o = wide w in let y = there w s p (omega arith) in then_took (stop q row f (cell w)) _ s p (stop_by q row f (cell w) s p y.value (p + size w) y.is (omega arith)) g
 
 -- ---- one element
 

@@ -8,3 +8,5 @@ pub mod Ways
 pub mod Given
 -- elements of numbers of one width
 pub mod Divided
+-- the answers determine what they say
+pub mod Unique

@@ -1,20 +1,21 @@
 -- The walk to a field, step by step: at a field, at an array, and over its elements.
-use Rattle.std.proofs.Common.{◌≡◌, ℕ, zero, suc, ◌+◌, ◌-◌, ◌%◌, ◌^◌, ◌<◌, ◌≤◌, Bool, true, false, cond, eqb, ltb, List, [], ◌∷◌, length, get_or, drop, set, sym, refl, ap, ◌∙◌, subst, arith}
+use Rattle.std.proofs.Common.{◌≡◌, ℕ, zero, suc, ◌+◌, ◌-◌, ◌%◌, ◌^◌, ◌<◌, ◌≤◌, Bool, true, false, eqb, ltb, List, [], ◌∷◌, length, get_or, drop, set, sym, refl, ap, ◌∙◌, subst, arith}
 use mathlib.Core.Option.{Option, none, some}
 use lib.ListN.{get_or-eq_default}
-use Rattle.layout.specs.Reading.{Reader, Refusal, Res, bad, give, loop, more, ok, pick, single, then}
+use Rattle.layout.specs.Reading.{Reader, Refusal, Res, bad, give, loop, ok, pick, single, then}
 use Rattle.layout.specs.Primitives.{Size, admits, checked, empty, fixed, kept, length_of, plain, refusal, unsigned, w32}
 use Rattle.layout.specs.Rows.{Basic, BasicValue, Shape, array, end, field}
 use Rattle.layout.specs.Read.{by_place, read_basic}
 use Rattle.layout.specs.Tables.{Span}
-use Rattle.layout.specs.Names.{begun, found, halted, seek, stop}
+use Rattle.layout.specs.Names.{begun, found, seek, stop}
 use Rattle.layout.proofs.Steps.{by_result, not_ok}
 use Rattle.layout.proofs.Tests.{by_test, lt-false, lt-true, of_ge, of_lt}
 use Rattle.body_reading.specs.Moved.{array_items}
+use Rattle.body_reading.specs.Tagged.{tag_shape, tags_if}
 use Rattle.body_reading.specs.Walk.{item_count, on}
-use Rattle.body_reading.proofs.Chains.{both, give_took, loop_done, loop_next, loop_no, same_end, same_value, then_no, then_took}
+use Rattle.body_reading.proofs.Chains.{give_took, loop_done, loop_next, loop_no, same_end, then_no, then_took}
 use Rattle.body_reading.proofs.DataAt.{length_no, length_took}
-use Rattle.names.specs.Walks.{Flat, count_up_to, element, ends, extent, of_counted, of_passed, of_sought, up_to}
+use Rattle.names.specs.Walks.{Flat, count_up_to, element, ends, of_counted, of_passed, of_sought}
 use Rattle.names.specs.declared.Sought.{Sought}
 use Rattle.names.specs.declared.fields.Counted.{Counted}
 use Rattle.names.specs.declared.fields.Passed.{Passed}
@@ -155,6 +156,17 @@ pub tag_count : (s : List ℕ) (p : ℕ) (o : Res ℕ) → o ≡ on unsigned s p
 unfolding item_count
 tag_count s p (ok n q) d = let m : n + 1 - 1 ≡ n = omega arith in then_took (checked false 6 (length_of unsigned plain)) _ s p (length_took s p n q d) (subst (λ (j : ℕ). ok n q ≡ on (give j) s q) (sym m) (give_took n s q))
 tag_count s p (bad e) d = then_no (checked false 6 (length_of unsigned plain)) _ s p (length_no s p e d)
+
+-- ---- tagged fields, where the version has them
+
+module _ (q row f : ℕ) (c s : List ℕ) (p : ℕ) (b : Bool) (t : ℕ) where
+  pub tags_lacking : b ≡ false → ok c p ≡ on (seek q (tags_if b t) row f c) s p
+  unfolding tags_if seek
+  tags_lacking e = give_took c s p ∙ ap (λ (x : Bool). on (seek q (tags_if x t) row f c) s p) (sym e)
+
+  pub tags_there : b ≡ true → (z : Res (List ℕ)) → z ≡ on (seek q (array plain t tag_shape end) row f c) s p → z ≡ on (seek q (tags_if b t) row f c) s p
+  unfolding tags_if
+  tags_there e z g = g ∙ ap (λ (x : Bool). on (seek q (tags_if x t) row f c) s p) (sym e)
 
 -- ---- an array that has a null of its own is counted as any other
 

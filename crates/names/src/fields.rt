@@ -144,7 +144,8 @@ pub fn count(s: &[u8], p: usize, q: usize, compact: bool) -> Counted
     after_count(items_at(s, p, compact, false), q)
 }
 
-pub(crate) fn after_count(n: Number, q: usize) -> Counted
+// The same of a number of elements that was read.
+pub fn after_count(n: Number, q: usize) -> Counted
     ensures { of_counted result ≡ count_up_to q (of_number n) }
 {
     match n {

@@ -16,6 +16,24 @@ pub mod fields;
 pub mod runs;
 pub mod tags;
 
+// The numbers by which refusals name the messages; 0 is a primitive, or tagged fields, by themselves.
+pub const API_VERSIONS_REQUEST: u8 = 1;
+
+pub const API_VERSIONS_RESPONSE: u8 = 2;
+
+pub const METADATA_REQUEST: u8 = 3;
+
+pub const METADATA_RESPONSE: u8 = 4;
+
+pub const FETCH_REQUEST: u8 = 5;
+
+pub const FETCH_RESPONSE: u8 = 6;
+
+// With the size before it.
+pub const REQUEST_HEADER: u8 = 7;
+
+pub const RESPONSE_HEADER: u8 = 8;
+
 // A refusal with its name. `row` and `field` are cells, -1 where there is none.
 #[derive(Drop)]
 pub struct Named {
@@ -45,6 +63,13 @@ pub fn without_field(e: Refusal, message: u8) -> Named
     ensures { of_named result ≡ naming message nowhere nowhere (of_refusal e) }
 {
     name(e, message, MINUS_ONE, MINUS_ONE)
+}
+
+// What a call that writes a body or a frame can answer, with the name of a refusal: so many bytes were written, or the refusal.
+#[derive(Drop)]
+pub enum BodyWritten {
+    Wrote(usize),
+    Refused(Named),
 }
 
 // What a walk to the field in which a place lies comes to: its row and its position, or the place after all that was walked over.

@@ -1,5 +1,5 @@
 // Elements that are some numbers of one width each: they are passed over at once, and the number in which a place lies is found by a division.
-ghost use Rattle.std.specs.Prelude.{◌≡◌, min};
+ghost use Rattle.std.specs.Prelude.{◌≡◌, ◌-◌, min, length};
 ghost use Rattle.layout.specs.Primitives.{size};
 ghost use Rattle.layout.specs.Reading.{loop};
 ghost use Rattle.body_reading.specs.Walk.{on};
@@ -16,6 +16,13 @@ fn smaller(a: usize, b: usize) -> usize
         return a;
     }
     b
+}
+
+// The bytes from p on that are there, up to q.
+pub fn bytes_up_to(s: &[u8], p: usize, q: usize) -> usize
+    ensures { result ≡ min (q - p) (length s.now - p) }
+{
+    smaller(less(q, p), less(s.len(), p))
 }
 
 // n more rows of table t.

@@ -1,8 +1,9 @@
 // Tagged fields in a walk to the field in which place q lies: each tag is a row of table t, with the tag at 0 and its data, with their length, at 1.
 ghost use Rattle.std.specs.Prelude.{◌≡◌, false};
+ghost use Rattle.layout.specs.Names.{seek};
 ghost use Rattle.layout.specs.Primitives.{plain};
 ghost use Rattle.layout.specs.Reading.{loop};
-ghost use Rattle.body_reading.specs.Tagged.{tag_shape};
+ghost use Rattle.body_reading.specs.Tagged.{tag_shape, tags_if};
 ghost use Rattle.body_reading.specs.Walk.{item_count, on};
 ghost use Rattle.names.specs.Walks.{Flat, count_up_to, element, of_counted, of_sought};
 
@@ -46,4 +47,26 @@ pub fn tags(s: &[u8], p: usize, q: usize, t: usize, count: u64, begun: &mut [u64
         }
     }
     Sought::Past(next)
+}
+
+// The tagged fields at p, where the version has them, field `field` of row `row`.
+pub fn tags_if(
+    s: &[u8],
+    p: usize,
+    q: usize,
+    flexible: bool,
+    t: usize,
+    row: u64,
+    field: u64,
+    begun: &mut [u64],
+) -> Sought
+    ensures { of_sought begun.new result ≡ on (seek q (tags_if flexible t) row field begun.old) s.now p }
+{
+    if !flexible {
+        return Sought::Past(p);
+    }
+    match count(s, p, q) {
+        Counted::After { count, next } => tags(s, next, q, t, count, begun),
+        Counted::Stopped => Sought::Found { row, field },
+    }
 }
