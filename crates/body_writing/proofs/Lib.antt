@@ -14,3 +14,7 @@ pub mod Writes
 pub mod Nested
 -- from what a body's writer promises to the call's answer
 pub mod Called
+-- the first field that has a fault, step by step; in rows that take rows of another table; and the name of a refusal, from what the walk came to
+pub mod Blaming
+pub mod BlamingRows
+pub mod NamedFaults

@@ -173,40 +173,40 @@ module _ (lent : List ℕ) (z : Size) (i : Shape) (f : Flat i) (w : ℕ) (q : ro
     abbrev st : Tables
     st = [] ∷ items ∷ others ∷ []
 
-    -- the tables behind the fields
-    left : (value_of lent p 1 st).1 ≡ [] ∷ drop n items ∷ others ∷ []
-    left = ap (λ (x : Value (List ℕ) p × Tables). x.1) (flat_value lent p g 1 st (lit< tt)) ∙ ap (λ (j : ℕ). [] ∷ drop j items ∷ others ∷ []) s
+    -- the tables after the fields
+    pub fields_left : (value_of lent p 1 st).1 ≡ [] ∷ drop n items ∷ others ∷ []
+    fields_left = ap (λ (x : Value (List ℕ) p × Tables). x.1) (flat_value lent p g 1 st (lit< tt)) ∙ ap (λ (j : ℕ). [] ∷ drop j items ∷ others ∷ []) s
 
-    cell : get_or (drop n items) 0 0 ≡ get_or items n 0
-    cell = get_or-drop n items 0 0 ∙ ap (λ (j : ℕ). get_or items j 0) (add-zero n)
+    pub count_cell_lem : get_or (drop n items) 0 0 ≡ get_or items n 0
+    count_cell_lem = get_or-drop n items 0 0 ∙ ap (λ (j : ℕ). get_or items j 0) (add-zero n)
 
     module _ (v : 0 < w) (k : takes w n items ≤ length others) where
-      part : rows_of w (take (takes w n items) others) ≡ chunks (count (get_or items n 0)) w others
+      pub taken_rows : rows_of w (take (takes w n items) others) ≡ chunks (count (get_or items n 0)) w others
       unfolding takes
-      part = rows_part (count (get_or items n 0)) w others v k
+      taken_rows = rows_part (count (get_or items n 0)) w others v k
 
       many : length (take (takes w n items) others) / w ≡ count (get_or items n 0)
-      many = sym (rows_many w (take (takes w n items) others)) ∙ ap length part ∙ chunks_many (count (get_or items n 0)) w others
+      many = sym (rows_many w (take (takes w n items) others)) ∙ ap length taken_rows ∙ chunks_many (count (get_or items n 0)) w others
 
       pub row_bytes_lem : (keeps z && eqb (get_or items n 0) minus) ≡ false → bytes_at lent (row p) 1 st ≡ row_bytes lent p items ++ counted_bytes lent i z w (take (takes w n items) others)
       unfolding counted_bytes rows_bytes
       row_bytes_lem e =
           joined_bytes lent (array z 2 i end) 1 p st
           ∙ ap₂ (λ (x y : List ℕ). x ++ y) (flat_bytes lent p g 1 st (lit< tt))
-          (ap (bytes_at lent (array z 2 i end) 1) left
-          ∙ array_bytes lent z i 1 2 ([] ∷ drop n items ∷ others ∷ []) f w q (λ u. omega arith) (lit< tt) (ap (λ (c : ℕ). keeps z && eqb c minus) cell ∙ e)
-          ∙ ap (λ (c : ℕ). length_bytes z (count c) ++ each (row_bytes lent i) (chunks (count c) w others)) cell
-          ∙ ap₂ (λ (c : ℕ) (rs : List (List ℕ)). length_bytes z c ++ each (row_bytes lent i) rs) (sym many) (sym part))
+          (ap (bytes_at lent (array z 2 i end) 1) fields_left
+          ∙ array_bytes lent z i 1 2 ([] ∷ drop n items ∷ others ∷ []) f w q (λ u. omega arith) (lit< tt) (ap (λ (c : ℕ). keeps z && eqb c minus) count_cell_lem ∙ e)
+          ∙ ap (λ (c : ℕ). length_bytes z (count c) ++ each (row_bytes lent i) (chunks (count c) w others)) count_cell_lem
+          ∙ ap₂ (λ (c : ℕ) (rs : List (List ℕ)). length_bytes z c ++ each (row_bytes lent i) rs) (sym many) (sym taken_rows))
 
       pub row_fault_lem : fault_at lent (row p) 1 st ≡ or (row_fault lent p items) (or (too_long z (count (get_or items n 0))) (rows_fault lent i w (take (takes w n items) others)))
       unfolding rows_fault
       row_fault_lem =
           joined_fault lent (array z 2 i end) 1 p st
           ∙ ap₂ or (flat_fault lent p g 1 st (lit< tt))
-          (ap (fault_at lent (array z 2 i end) 1) left
+          (ap (fault_at lent (array z 2 i end) 1) fields_left
           ∙ array_fault lent z i 1 2 ([] ∷ drop n items ∷ others ∷ []) f w q (λ u. omega arith) (lit< tt)
-          ∙ ap (λ (c : ℕ). or (too_long z (count c)) (first_of (row_fault lent i) (chunks (count c) w others))) cell
-          ∙ ap (λ (rs : List (List ℕ)). or (too_long z (count (get_or items n 0))) (first_of (row_fault lent i) rs)) (sym part))
+          ∙ ap (λ (c : ℕ). or (too_long z (count c)) (first_of (row_fault lent i) (chunks (count c) w others))) count_cell_lem
+          ∙ ap (λ (rs : List (List ℕ)). or (too_long z (count (get_or items n 0))) (first_of (row_fault lent i) rs)) (sym taken_rows))
 
 -- ---- such rows one by one, as a loop takes them: `left` and `free` are what is left of the tables
 

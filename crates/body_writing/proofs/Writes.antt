@@ -139,7 +139,7 @@ module _ (lent : List ℕ) where
       none_bytes false u e = let y : ◌≡◌ {A = ℕ} 0 1 = cc in absurd (omega arith)
 
       -- null has no items, and so no fault
-      some_fault : (b : Bool) (u : List A → ℕ) → u [] ≡ 0 → sized_fault b z u (items_of b c g st).0 ≡ or (too_long z (count c)) (u (times (count c) g st).0)
+      pub some_fault : (b : Bool) (u : List A → ℕ) → u [] ≡ 0 → sized_fault b z u (items_of b c g st).0 ≡ or (too_long z (count c)) (u (times (count c) g st).0)
       unfolding sized_fault items_of count times or unless
       some_fault true u v = go (eqb c minus) refl
         where

@@ -2,3 +2,5 @@
 pub mod Asked
 -- what a writer of a part of a body promises
 pub mod Writes
+-- what a walk to a faulty field answers
+pub mod Blames

@@ -2,9 +2,12 @@
 // One loop serves rows of every width.
 ghost use Rattle.std.specs.Prelude.{false, true, ◌≡◌, length, ◌+◌, ◌<◌};
 ghost use Rattle.layout.specs.Tables.{count, good_count, inside, rows_of, slice};
+ghost use Rattle.layout.specs.Write.{unless};
+ghost use Rattle.primitives_put.specs.Answers.{within};
 ghost use Rattle.body_writing.specs.Asked.{all_ranged, start_of, string_fault, tells, width_of};
 
 use primitives::{NOT_TEXT, TOO_WIDE};
+use primitives_put::replies::fits;
 
 // Rows that have a range: (start, length), (start, length, count), (tag, start, length).
 #[derive(Drop)]
@@ -127,7 +130,17 @@ pub fn do_topics_tell(topics: &[u64], n: u64) -> bool
     do_tell(topics, n, 3, 2, false)
 }
 
-// ---- text
+// ---- faults
+
+// What is wrong with a number of a width that holds those from -half to half - 1: 11, or 0 for nothing.
+pub fn number_fault(c: u64, half: u64) -> u8
+    ensures { result ≡ unless (within half c) 11 }
+{
+    if !fits(c, half) {
+        return TOO_WIDE;
+    }
+    0
+}
 
 // What is wrong with the content of a STRING: 11 before 7, or 0 for neither.
 pub fn string_fault(text: &[u8]) -> u8
