@@ -44,7 +44,7 @@ tag_wide = refl
 -- ---- a row
 
 module _ (lent : List ℕ) where
-  tag_value : (r : List ℕ) → row_value lent tag_shape r ≡ (get_or r 0 0, (slice lent (get_or r 1 0, get_or r 2 0), tt))
+  pub tag_value : (r : List ℕ) → row_value lent tag_shape r ≡ (get_or r 0 0, (slice lent (get_or r 1 0, get_or r 2 0), tt))
   unfolding value_of pop width basic_of span_of
   tag_value [] = refl
   tag_value (a ∷ []) = refl
