@@ -35,13 +35,13 @@ use Rattle.api_versions_request.specs.Answers.{of_text}
 use Rattle.api_versions_request.specs.declared.Text.{Text}
 use Rattle.api_versions_request.specs.Shapes.{request_shape, text_field, texts_shape}
 
-is_shape : (v : ℕ) → v ≤ 3 → shape request v ≡ request_shape (leb 3 v)
+pub is_shape : (v : ℕ) → v ≤ 3 → shape request v ≡ request_shape (leb 3 v)
 unfolding shape at stands standing tag_rows request_rows
 is_shape = up_to 3 (λ v. shape request v ≡ request_shape (leb 3 v)) (refl, (refl, (refl, refl)))
 
 -- ---- a text that is unset, and one that is there
 
-abbrev text_of : List ℕ → Text → List ℕ
+abbrev pub text_of : List ℕ → Text → List ℕ
 text_of lent t = basic_of lent (text_field true) (of_text t)
 
 module _ (t : Text) where
@@ -116,7 +116,7 @@ module _ (lent : List ℕ) (name version : Text) (own : ℕ) (tags : List ℕ) w
   behind = (own ∷ []) ∷ tags ∷ []
 
   -- the texts, and the tables behind them
-  texts_value : value_of lent (texts_shape end) 0 rows ≡ ((text_of lent name, (text_of lent version, tt)), behind)
+  pub texts_value : value_of lent (texts_shape end) 0 rows ≡ ((text_of lent name, (text_of lent version, tt)), behind)
   unfolding value_of pop width
   texts_value = go name version
     where

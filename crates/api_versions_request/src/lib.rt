@@ -4,6 +4,8 @@
 
 use primitives::Refusal;
 
+mod naming;
+mod naming_written;
 mod reading;
 mod writing;
 

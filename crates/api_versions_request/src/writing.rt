@@ -21,7 +21,7 @@ use primitives_put::{Form, Written};
 use tagged_fields::writing::tag_buffer;
 
 // The bytes of a text: none where it is unset.
-fn bytes_of(lent: &[u8], t: Text) -> &[u8]
+pub(crate) fn bytes_of(lent: &[u8], t: Text) -> &[u8]
     ensures { result.now ≡ basic_of lent.now (text_field true) (of_text t) }
 {
     match t {
