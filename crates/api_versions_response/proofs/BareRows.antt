@@ -158,11 +158,11 @@ is_bare_cut f s p e h =
     let a : get_or (take (length s - p) (drop p s)) 6 0 ≡ get_or s (p + 6) 0 = ap (λ (t : List ℕ). get_or t 6 0) (take_all (length s - p) (drop p s) (omega (arith, length-drop p s))) ∙ get_or-drop p s 6 0 in
     subst (λ (n : ℕ). IsBare f s p (eqb n 0)) (sym a) (is_bare f s p e h)
 
+pub never : {X : Type 0} → false ≡ true → X
+never r = let z : ◌≡◌ {A = ℕ} 0 1 = cc in absurd (omega arith)
+
 pub not_bare : (f : Bool) (s : List ℕ) (p : ℕ) → IsBare f s p false
 not_bare f s p = record { flexible = λ r. never r; whole = λ r. never r; empty = λ r. never r }
-  where
-    never : {X : Type 0} → false ≡ true → X
-    never r = let z : ◌≡◌ {A = ℕ} 0 1 = cc in absurd (omega arith)
 
 pub bare_item : (f : Bool) (s : List ℕ) (p : ℕ) (is : List ℕ) (i : ℕ) (ts : List ℕ) (t : ℕ) (r : Bool) → IsBare f s p r → r ≡ true → (is' : List ℕ) (m : ℕ) → Bare s p is i is' m →
     Runs (λ e. walk e.0 (key_shape f) 1) s p (in_tables is i ts t) (rows_is is' ts (Rows.Took (p + 7) m t))

@@ -2,6 +2,8 @@
 pub mod BareRows
 -- read: throttle time, the body's own tags, and the whole body
 pub mod AroundItems
+-- the walk to a field
+pub mod Sought
 -- the whole reply of a read, and the only one
 pub mod Replies
 pub mod Unique
@@ -15,4 +17,7 @@ pub mod ItemsWritten
 pub mod Untagged
 -- written: a whole response part by part, the answer to the call, and the only one
 pub mod Whole
+-- written: the walk to a field with a fault, and the name of a refusal
+pub mod Blamed
+pub mod NamedWritten
 pub mod UniqueWritten

@@ -65,7 +65,7 @@ module _ (lent : List ℕ) (f : Bool) (c : ℕ) (cs items tags : List ℕ) where
       ∙ ap (λ (xs : List (Value (List ℕ) (item_shape f))). length_bytes (Rows.items f) (count c) ++ each (write (item_shape f)) xs) (own_apart 4 (item_cells f) (value_of lent (item_shape f) 1) _ (item_value lent f) (count c) cs [] items tags)
 
   -- the tables behind them
-  array_left : (value_of lent (array (Rows.items f) 1 (item_shape f) end) 0 st).1 ≡ cs ∷ drop (count c * 4) items ∷ drop (cells_of f (chunks (count c) 4 items)) tags ∷ []
+  pub array_left : (value_of lent (array (Rows.items f) 1 (item_shape f) end) 0 st).1 ≡ cs ∷ drop (count c * 4) items ∷ drop (cells_of f (chunks (count c) 4 items)) tags ∷ []
   unfolding value_of pop items_of
   array_left = go f
     where
@@ -112,7 +112,7 @@ module _ (lent : List ℕ) (k m c : ℕ) (items table : List ℕ) where
 -- ---- what stands behind the error
 
 -- no number of items has a fault of its own
-items_fit : (f : Bool) (n : ℕ) → too_long (Rows.items f) n ≡ 0
+pub items_fit : (f : Bool) (n : ℕ) → too_long (Rows.items f) n ≡ 0
 unfolding too_long
 items_fit true n = refl
 items_fit false n = refl

@@ -6,3 +6,7 @@ pub mod Shapes
 -- what the walks over items and over a body say
 pub mod ItemWalks
 pub mod Walks
+-- what the walk to a field passes over
+pub mod Seek
+-- what the walk to a faulty field says
+pub mod Blames

@@ -65,7 +65,7 @@ fn key_at(s: &[u8], p: usize) -> Key
 }
 
 // Most items have no tags: their bytes are there, and the last is 0.
-fn is_bare(s: &[u8], p: usize, flexible: bool) -> bool
+pub(crate) fn is_bare(s: &[u8], p: usize, flexible: bool) -> bool
     ensures { IsBare flexible s.now p result }
 {
     if flexible {

@@ -7,6 +7,8 @@ use primitives::Refusal;
 
 mod items;
 mod judge;
+mod naming;
+mod naming_written;
 mod reading;
 mod writing;
 
