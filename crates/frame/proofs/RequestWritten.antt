@@ -94,10 +94,10 @@ numbers_put k v c h p q d₂ u s = capped_as (sym (numbers_bytes [] w16 w16 w32 
 
 -- ---- the header
 
-abbrev request_shape : Bool → Shape
+abbrev pub request_shape : Bool → Shape
 request_shape t = onto numbers_shape (onto client_shape (tags_shape t 1))
 
-is_shape : (v : ℕ) → 1 ≤ v → v ≤ 2 → shape request.rows v ≡ request_shape (leb 2 v)
+pub is_shape : (v : ℕ) → 1 ≤ v → v ≤ 2 → shape request.rows v ≡ request_shape (leb 2 v)
 unfolding shape at stands standing tag_rows request_rows
 is_shape = between 1 1 (λ v. shape request.rows v ≡ request_shape (leb 2 v)) (refl, refl)
 

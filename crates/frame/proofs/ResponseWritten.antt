@@ -28,10 +28,10 @@ use Rattle.frame.specs.Answers.{of_response}
 use Rattle.frame.specs.declared.ResponseHeader.{ResponseHeader}
 use Rattle.frame.proofs.Written.{header_put, tags_bytes, tags_clean}
 
-abbrev response_shape : Bool → Shape
+abbrev pub response_shape : Bool → Shape
 response_shape t = field (number w32) (tags_shape t 1)
 
-is_shape : (v : ℕ) → v ≤ 1 → shape response.rows v ≡ response_shape (leb 1 v)
+pub is_shape : (v : ℕ) → v ≤ 1 → shape response.rows v ≡ response_shape (leb 1 v)
 unfolding shape at stands standing tag_rows response_rows
 is_shape = up_to 1 (λ v. shape response.rows v ≡ response_shape (leb 1 v)) (refl, refl)
 

@@ -79,11 +79,11 @@ module _ (w : List ℕ) where
 
 -- ---- the headers
 
-request_is : (n : ℕ) → 1 ≤ n → n ≤ 2 → onto front_shape (tags_if (leb 2 n) 1) ≡ shape (Headers.request).rows n
+pub request_is : (n : ℕ) → 1 ≤ n → n ≤ 2 → onto front_shape (tags_if (leb 2 n) 1) ≡ shape (Headers.request).rows n
 unfolding front_shape tags_if shape at stands standing tag_rows request_rows
 request_is n a b = between 1 1 (λ n. onto front_shape (tags_if (leb 2 n) 1) ≡ shape (Headers.request).rows n) (refl, refl) n a b
 
-response_is : (n : ℕ) → n ≤ 1 → field (number w32) (tags_if (leb 1 n) 1) ≡ shape (Headers.response).rows n
+pub response_is : (n : ℕ) → n ≤ 1 → field (number w32) (tags_if (leb 1 n) 1) ≡ shape (Headers.response).rows n
 unfolding tags_if shape at stands standing tag_rows response_rows
 response_is = up_to 1 (λ n. field (number w32) (tags_if (leb 1 n) 1) ≡ shape (Headers.response).rows n) (refl, refl)
 

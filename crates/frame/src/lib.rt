@@ -4,6 +4,8 @@
 
 use primitives::{Field, Refusal};
 
+mod naming;
+mod naming_written;
 mod numbers;
 mod reading;
 mod writing;

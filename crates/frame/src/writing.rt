@@ -59,7 +59,7 @@ fn numbers_fit(key: u64, version: u64, correlation: u64) -> bool
 }
 
 // Null, as which an unset name is written, has no fault.
-fn client_fault(lent: &[u8], client: Field) -> u8
+pub(crate) fn client_fault(lent: &[u8], client: Field) -> u8
     ensures { result ≡ row_fault lent.now client_shape (field_cells client) }
 {
     match client {
