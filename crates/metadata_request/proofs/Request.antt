@@ -40,7 +40,7 @@ use Rattle.metadata_request.specs.Answers.{of_creation}
 use Rattle.metadata_request.specs.declared.Creation.{Creation}
 use Rattle.metadata_request.specs.Shapes.{creation_field, creation_shape, name_shape, request_shape, topics_shape}
 
-is_shape : (v : ℕ) → v ≤ 4 → shape request v ≡ request_shape (leb 4 v)
+pub is_shape : (v : ℕ) → v ≤ 4 → shape request v ≡ request_shape (leb 4 v)
 unfolding shape at stands standing request_rows name_rows
 is_shape = up_to_four (λ v. shape request v ≡ request_shape (leb 4 v)) refl refl refl refl refl
 
@@ -64,7 +64,7 @@ module _ (size c : ℕ) (topics : List ℕ) where
   unfolding kind_of kind_in arrays row_width width good_row good_cells good_span asked ranged
   is_good k m = good_one size (request_shape false) name_shape 2 0 (count c) (good_count true c) (c ∷ k ∷ m ∷ []) topics refl refl (rw (always (eqb k 0)) (and-true (good_count true c))) (add-zero (count c)) (λ r. and-true _) (λ r. refl)
 
-  abbrev judged : Bool
+  abbrev pub judged : Bool
   judged = good size 1 (request_shape false) ((c ∷ 2 ∷ 1 ∷ []) ∷ topics ∷ [])
 
   pub other_count : {k : ℕ} → k ≡ count c → k ≢ length topics / 2 → false ≡ judged
@@ -73,7 +73,7 @@ module _ (size c : ℕ) (topics : List ℕ) where
   pub same_count : {k : ℕ} → k ≡ count c → k ≡ length topics / 2 → length topics < 2 ^ 64 → (b : Bool) → b ≡ all_ranged 2 0 size topics → b ≡ judged
   same_count e h l b i = rows_same c (length topics / 2) (all_ranged 2 0 size topics) e h (omega arith) b i ∙ sym (is_good 2 1)
 
-  good_rows : judged ≡ true → count c ≡ length topics / 2
+  pub good_rows : judged ≡ true → count c ≡ length topics / 2
   good_rows g = of_eq (count c) (length topics / 2) (both (all_ranged 2 0 size topics) _ (both (good_count true c) _ (sym (is_good 2 1) ∙ g)).1).1
 
 -- ---- 11 and 7
@@ -89,7 +89,7 @@ creation_clean lent cs true = refl
 creation_clean lent cs false = refl
 
 module _ (lent : List ℕ) (c : ℕ) (topics : List ℕ) where
-  abbrev refusal : ℕ
+  abbrev pub refusal : ℕ
   refusal = refusal_of lent 1 (request_shape false) (request_shape false) ((c ∷ 2 ∷ 1 ∷ []) ∷ topics ∷ [])
 
   fault_is : (f : Bool) (k m : ℕ) → fault_at lent (request_shape f) 0 ((c ∷ k ∷ m ∷ []) ∷ topics ∷ []) ≡ first_of (row_fault lent name_shape) (chunks (count c) 2 topics)

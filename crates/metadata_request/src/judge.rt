@@ -28,7 +28,7 @@ pub(crate) fn refusal(lent: &[u8], count: u64, topics: &[u64]) -> u8
     names_fault(lent, topics)
 }
 
-fn name_fault(lent: &[u8], topics: &[u64], i: usize) -> u8
+pub(crate) fn name_fault(lent: &[u8], topics: &[u64], i: usize) -> u8
     requires { i < length topics.now / 2 }
     ensures { result ≡ row_fault lent.now name_shape (get_or (rows_of 2 topics.now) i []) }
 {

@@ -3,6 +3,7 @@
 #![tactic(auto)]
 
 mod judge;
+mod naming;
 mod writing;
 
 pub use crate::writing::write;
