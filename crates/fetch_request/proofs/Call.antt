@@ -24,7 +24,7 @@ use Rattle.fetch_request.specs.Shapes.{lead_shape, limits_shape, request_shape, 
 use Rattle.fetch_request.proofs.Judgement.{good_topics, is_fault, is_good}
 use Rattle.fetch_request.proofs.Walk.{lead_bytes, limits_bytes, topics_bytes}
 
-is_shape : (v : ℕ) → v ≤ 4 → shape request v ≡ request_shape (leb 3 v) (leb 4 v)
+pub is_shape : (v : ℕ) → v ≤ 4 → shape request v ≡ request_shape (leb 3 v) (leb 4 v)
 unfolding shape at stands standing request_rows ask_topic_rows ask_rows
 is_shape = up_to_four (λ v. shape request v ≡ request_shape (leb 3 v) (leb 4 v)) refl refl refl refl refl
 

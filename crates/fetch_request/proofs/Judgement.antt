@@ -47,7 +47,7 @@ module _ (size c : ℕ) (topics partitions : List ℕ) where
       (λ r. ap (λ (b : Bool). ranged 0 size r && b) (and-true _ ∙ ap (good_count false) (get_or-drop 2 r 0 0))) (λ r. add-zero _ ∙ ap count (get_or-drop 2 r 0 0)) (λ r. refl) (all_true (rows_of 3 partitions)) (λ r. refl) (λ r. refl)
       ∙ ap (λ (b : Bool). good_count false c && (eqb (count c) (length topics / 3) && (telling && b))) (and-true (all_ranged 3 0 size topics))
 
-  abbrev judged : Bool
+  abbrev pub judged : Bool
   judged = good size 2 (request_shape false false) ((0 ∷ 0 ∷ 0 ∷ 0 ∷ 0 ∷ 0 ∷ 0 ∷ c ∷ []) ∷ topics ∷ partitions ∷ [])
 
   pub good_other : c ≢ length topics / 3 → false ≡ judged
@@ -156,7 +156,7 @@ module _ (lent : List ℕ) (c : ℕ) (topics partitions : List ℕ) (own : Own) 
 -- ---- a partition's numbers
 
 -- every cell holds a number of 64 bits
-wide_holds : (n : ℕ) → n < 2 ^ 64 → holds w64 n ≡ true
+pub wide_holds : (n : ℕ) → n < 2 ^ 64 → holds w64 n ≡ true
 unfolding holds
 wide_holds n h = go (ltb n (2 ^ 63)) refl
   where

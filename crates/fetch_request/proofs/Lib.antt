@@ -4,7 +4,11 @@ pub mod Walk
 pub mod Judgement
 -- the most bytes that a request can have
 pub mod Most
+-- the field that is blamed
+pub mod Blamed
 -- the answer to the call
 pub mod Call
+-- the name of the call's refusal
+pub mod CallNamed
 -- a promise determines reply and output
 pub mod Unique

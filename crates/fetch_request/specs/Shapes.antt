@@ -13,6 +13,10 @@ topic_shape = field (text (fixed w16 never)) (array (fixed w32 empty) 2 partitio
 abbrev pub topics_shape : Shape
 topics_shape = array (fixed w32 empty) 1 topic_shape end
 
+-- an isolation level, before r
+abbrev pub level_shape : Bool → Shape → Shape
+level_shape i r = stands i (optional (0 ∷ []) level) r
+
 -- max bytes and isolation level, in front of r
 abbrev pub limits_shape : Bool → Bool → Shape → Shape
 limits_shape b i r = stands b (optional (2147483647 ∷ []) (number w32)) (stands i (optional (0 ∷ []) level) r)

@@ -5,6 +5,7 @@
 use body_reading::versioned::Versioned;
 
 mod judge;
+mod naming;
 mod writing;
 
 pub use writing::write;
