@@ -8,5 +8,7 @@ pub mod Ways
 pub mod Given
 -- elements of numbers of one width
 pub mod Divided
+-- rows of tags that are begun at once
+pub mod AtOnce
 -- the answers determine what they say
 pub mod Unique

@@ -12,6 +12,7 @@ use primitives::{
 };
 use std::num::wrapping_add_u64;
 
+mod at_once;
 pub mod fields;
 pub mod runs;
 pub mod tags;

@@ -26,7 +26,7 @@ pub fn bytes_up_to(s: &[u8], p: usize, q: usize) -> usize
 }
 
 // n more rows of table t.
-fn advance(begun: &mut [u64], t: usize, n: u64)
+pub(crate) fn advance(begun: &mut [u64], t: usize, n: u64)
     ensures { begun.new ≡ many_begun n t begun.old }
 {
     if n == 0 {

@@ -8,7 +8,7 @@ ghost use Rattle.body_reading.specs.Walk.{item_count, on};
 ghost use Rattle.names.specs.Walks.{Flat, count_up_to, element, of_counted, of_sought};
 
 use crate::fields::{Counted, Passed, after_count, data, varint};
-use crate::{Sought, begin};
+use crate::{Sought, at_once, begin};
 use body_reading::places::varint_at;
 
 // The number of tags.
@@ -66,7 +66,7 @@ pub fn tags_if(
         return Sought::Past(p);
     }
     match count(s, p, q) {
-        Counted::After { count, next } => tags(s, next, q, t, count, begun),
+        Counted::After { count, next } => at_once::tags(s, next, q, t, count, begun),
         Counted::Stopped => Sought::Found { row, field },
     }
 }
