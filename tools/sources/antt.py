@@ -168,7 +168,7 @@ class AnttFile:
         own = indents[full[0]]
         if min(indents.values()) < own:
             raise Unreadable("line %d: it stands right of its block" % (full[0] + 1))
-        starts = [i for i in full if indents[i] == own and self.code[i].lstrip()[0] not in ")}"]
+        starts = [i for i in full if indents[i] == own and self.code[i].lstrip()[0] not in ")}]"]
         return [(a, max(i for i in full if i < b) + 1) for a, b in zip(starts, starts[1:] + [last])]
 
     def read(self, first, last, blocks, found):

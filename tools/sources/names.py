@@ -5,19 +5,19 @@ from .antt import AnttFile, Group, Unreadable, is_word, nodes_of, place_of, spli
 from .rattle import Declared, Function, RattleFile
 
 # the kit's libraries under the logic, as the first word of a `use` path; those of Rattle's own begin with `Rattle` and their name, as ours do
-KIT = {"Prim", "mathlib", "lib", "native", "borrow", "mir"}
+KIT = {"Prim", "mathlib", "lib", "native", "borrow", "mir", "denote"}
 # what stands in every file without a `use` line: syntax, and names that are built in
 SYNTAX = {"→", "×", "=", ":", "_", "Type"}
 PRELUDE = {"Unit", "tt", "⊥", "¬", "absurd"}
 # types and traits of the kit's std that every source file has without a `use` line, as far as they are used here
 STD = {"AllocError", "Box", "Global", "HostRuntime", "Option", "Print", "Result", "String", "Vec"}
 # constructors of the kit's types; a pattern that names another name of the kit is refused
-KIT_CONSTRUCTORS = {"true", "false", "zero", "suc", "none", "some", "pos", "negsuc", "[]", "◌∷◌", "tt"}
+KIT_CONSTRUCTORS = {"true", "false", "zero", "suc", "none", "some", "None", "Some", "Ok", "Err", "pos", "negsuc", "[]", "◌∷◌", "tt"}
 # where the arguments of an operator go, in its name
 HOLE = "◌"
-# what an `ensures` calls the reply, and what every clause is lent: what a reference points to, and for one that may be altered before and after the call
+# what an `ensures` calls the reply, and what every clause is lent: what a reference points to, and what may be altered before and after the call (`old` and `new` behind a reference, `entry` and `exit` of a value)
 REPLY = "result"
-LENT_FIELDS = {"now", "old", "new"}
+LENT_FIELDS = {"now", "old", "new", "entry", "exit"}
 
 Kit = namedtuple("Kit", "module name")  # something of the kit's libraries, by the module that declares it
 Target = namedtuple("Target", "thing constructor")  # what a name means: `thing`, or a constructor of it
@@ -79,6 +79,7 @@ class Names:
 
     def __init__(self, scope):
         self.scope, self.targets, self.fields = scope, [], []
+        self.given = set()  # type parameters of a function: what stands behind the dot after one is said by the trait that bounds it
 
     def refuse(self, line, why):
         raise Unreadable("%s:%d: %s" % (self.scope.file.path, line, why))
@@ -110,7 +111,7 @@ class Names:
             bound |= set(member.names) if definition.kind == "record" else set()
 
     def contract(self, function):
-        parameters = {name for name, _ in function.parameters}
+        parameters, self.given = {name for name, _ in function.parameters} | function.given, function.given
         for clause in function.requires:
             self.term(clause, parameters)
         for clause in function.ensures:
@@ -140,6 +141,8 @@ class Names:
         parts = node.text.split(".")
         if node.kind == "field":
             self.fields.append(node.text)
+        elif node.kind == "path" and parts[0] in self.given:
+            pass
         elif node.kind == "path" and parts[0] in bound:
             self.fields += parts[1:]
         elif node.kind == "path":
@@ -317,16 +320,31 @@ class World:
         parts = module.split(".")
         if parts[0] != "Rattle":
             return module, name
+        if parts[2:4] == ["specs", "declared"]:
+            self.check_kit_type(parts[1], parts[4:], name)
+            return module, name
         path = os.path.join(self.kit, *parts[1:]) + ".antt"
         if os.path.exists(path):
             given = self.passed_on(path)
             return self.declaring(*given[name]) if name in given else (module, name)
         above = os.path.join(self.kit, *parts[1:-1]) + ".antt"
+        # The modules right below `specs` and `proofs` are passed on by Lib.
+        above = above if os.path.exists(above) else os.path.join(self.kit, *parts[1:-1], "Lib.antt")
         rows = open(above, encoding="utf-8") if os.path.exists(above) else []
         whole = [row.split()[2] for row in rows if re.fullmatch(r"pub use [^{}]*\.%s\s*" % re.escape(parts[-1]), row)]
         if len(whole) != 1:
             raise Unreadable("the kit has no module %s" % module)
         return self.declaring(whole[0], name)
+
+    def check_kit_type(self, library, path, name):
+        """A type of the kit's own code, or a case of an enum of it, must be there: the kit makes the modules of its types as it does those of ours."""
+        kind = path[-2] if path[-1] == "TheVariants" else path[-1]
+        modules = path[: path.index(kind)] or ["lib"]
+        source = os.path.join(self.kit, library, "src", *modules) + ".rt"
+        text = open(source, encoding="utf-8").read() if os.path.exists(source) else ""
+        found = re.search(r"^pub (struct|enum) %s\b[^{;]*\{([^}]*)\}" % re.escape(kind), text, re.M)
+        if not found or path[-1] == "TheVariants" and not re.search(r"\b%s\b" % re.escape(name), found.group(2)):
+            raise Unreadable("the kit has no type %s.%s" % (".".join([library] + path), name))
 
     @functools.lru_cache(maxsize=None)
     def passed_on(self, path):
@@ -378,6 +396,8 @@ class World:
         crate, path = function.file.crate, list(function.file.modules) + [function.name]
         if path in self.rattle(crate, ()).passed.values():
             path = path[-1:]
+        if function.within:
+            path.insert(-1, function.within)
         return "::".join([crate] + path)
 
     # ---- what something uses

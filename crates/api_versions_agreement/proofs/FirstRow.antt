@@ -3,65 +3,58 @@ use mathlib.Core.List.{List, [], ◌∷◌}
 use mathlib.Core.Logic.{◌≢◌}
 use mathlib.Core.Option.{Option, none, some}
 use mathlib.Core.Path.{◌∙◌, ◌≡◌, ap, refl, sym}
-use Prim.Native.Nat.{◌*◌, ◌+◌, ◌/◌, ◌<◌, ◌^◌, ◌≤◌, suc, ℕ}
-use native.Mathlib.Nat.{add-zero}
+use Prim.Native.Nat.{◌+◌, ◌/◌, ◌<◌, ◌^◌, ◌≤◌, suc, zero, ℕ}
 use native.Mathlib.Numerals.{add-one}
-use native.Mathlib.Omega.{arith}
-use lib.Dec.{lit<}
-use lib.ListN.{drop, drop_of_length-le, get_or, length}
+use lib.ListN.{drop, drop_of_length-le, get_or, length, take}
 use lib.Seq.{drop-cons}
 use lib.IntN.{negsuc, ℤ}
 use borrow.Author.Tests.{eq-eqb, ne_eqb}
 use mir.Syntax as Mir
 use mir.Val.{of_z, to_z}
-use Rattle.layout.specs.Tables.{first_row, rows_of}
+use Rattle.std.specs.Simd.{first_chunks}
+use Rattle.std.specs.Prelude.{Option as Maybe, Some, None}
+use Rattle.layout.specs.Tables.{chunks, first_row, rows_of}
 use Rattle.layout.specs.Primitives.{minus, signed, w64}
 use Rattle.layout.specs.Agreement.{agreed, agreement, highest}
 use Rattle.api_versions_agreement.specs.Agreed.{of_range, range_in, range_of, shown_agreed, shown_agreement, shown_cells}
 use Rattle.api_versions_agreement.specs.declared.Range.{Range}
-use Rattle.layout.proofs.Chunks.{row_cell, rows_many}
 use Rattle.primitives.proofs.Signed.{back}
 
-module _ (items : List ℕ) (key : ℕ) where
-  abbrev rows : List (List ℕ)
-  rows = rows_of 4 items
-
+module _ (key : ℕ) (rows : List (List ℕ)) where
   -- the first i rows are of other keys
-  pub record Searched (i : ℕ) : Type 0 where
-    pub below : i ≤ length items / 4
-    pub same : first_row key (drop i rows) ≡ first_row key rows
+  abbrev pub Searched : ℕ → Type 0
+  Searched i = first_row key (drop i rows) ≡ first_row key rows
 
-  pub searched_start : Searched 0
-  searched_start = record { below = omega arith; same = refl }
+  module _ (i : ℕ) (a : Searched i) (h : i < length rows) where
+    next : first_row key (get_or rows i [] ∷ drop (suc i) rows) ≡ first_row key rows
+    next = sym (ap (first_row key) (drop-cons rows i [] h)) ∙ a
 
-  module _ (i : ℕ) (a : Searched i) (h : i < length items / 4) where
-    abbrev row : List ℕ
-    row = get_or rows i []
-
-    next : first_row key (row ∷ drop (suc i) rows) ≡ first_row key rows
-    next = sym (ap (first_row key) (drop-cons rows i [] (omega (arith, rows_many 4 items)))) ∙ a.same
-
-    front : get_or row 0 0 ≡ get_or items (i * 4) 0
-    front = row_cell 4 items i h 0 (lit< tt) ∙ ap (λ (k : ℕ). get_or items k 0) (add-zero (i * 4))
-
-    pub searched_next : get_or items (i * 4) 0 ≢ key → Searched (i + 1)
+    pub searched_next : get_or (get_or rows i []) 0 0 ≢ key → Searched (i + 1)
     unfolding first_row
-    searched_next o = record {
-      below = omega arith;
-      same = ap (λ (k : ℕ). first_row key (drop k rows)) (add-one i) ∙ (rw (ne_eqb (get_or row 0 0) key (λ e. o (sym front ∙ e))) at next);
-    }
+    searched_next o = ap (λ (k : ℕ). first_row key (drop k rows)) (add-one i) ∙ (rw (ne_eqb (get_or (get_or rows i []) 0 0) key o) at next)
 
-    found : get_or items (i * 4) 0 ≡ key → some row ≡ first_row key rows
+    found : get_or (get_or rows i []) 0 0 ≡ key → some (get_or rows i []) ≡ first_row key rows
     unfolding first_row
-    found e = rw (eq-eqb (get_or row 0 0) key (front ∙ e)) at next
+    found e = rw (eq-eqb (get_or (get_or rows i []) 0 0) key e) at next
 
-    pub searched_found : get_or items (i * 4) 0 ≡ key → some (get_or items (i * 4 + 1) 0, get_or items (i * 4 + 2) 0) ≡ range_of key items
-    unfolding range_of
-    searched_found e = sym (λ t. some (row_cell 4 items i h 1 (lit< tt) t, row_cell 4 items i h 2 (lit< tt) t)) ∙ ap range_in (found e)
+-- the rows that code cuts off a table are the table's
+module _ (items : List ℕ) where
+  as_chunks : (w n : ℕ) (cs : List ℕ) → first_chunks w n cs ≡ chunks n w cs
+  unfolding chunks
+  as_chunks w zero cs = refl
+  as_chunks w (suc n) cs = ap (λ (rs : List (List ℕ)). take w cs ∷ rs) (as_chunks w n (drop w cs))
 
-  pub searched_none : (i : ℕ) → Searched i → length items / 4 ≤ i → none ≡ range_of key items
-  unfolding first_row range_of
-  searched_none i a h = ap range_in (sym (ap (first_row key) (drop_of_length-le rows {i = i} (omega (arith, rows_many 4 items)))) ∙ a.same)
+  module _ (key : ℕ) (rows : List (List ℕ)) (e : rows ≡ first_chunks 4 (length items / 4) items) where
+    in_rows : {o : Option (List ℕ)} → o ≡ first_row key rows → range_in o ≡ range_of key items
+    unfolding range_of rows_of
+    in_rows h = ap range_in (h ∙ ap (first_row key) (e ∙ as_chunks 4 (length items / 4) items))
+
+    pub range_found : (i : ℕ) → Searched key rows i → i < length rows → get_or (get_or rows i []) 0 0 ≡ key → some (get_or (get_or rows i []) 1 0, get_or (get_or rows i []) 2 0) ≡ range_of key items
+    range_found i a h k = in_rows (found key rows i a h k)
+
+    pub range_none : (i : ℕ) → Searched key rows i → length rows ≤ i → none ≡ range_of key items
+    unfolding first_row
+    range_none i a h = in_rows (sym (ap (first_row key) (drop_of_length-le rows {i = i} h)) ∙ a)
 
 module _ (key low high : ℕ) where
   -- the cells, by the range that the first row has
@@ -74,20 +67,20 @@ module _ (key low high : ℕ) where
   by_range none = refl
   by_range (some r) = refl
 
-  module _ (items : List ℕ) (r : Range) (h : of_range r ≡ range_of key items) (x : ℤ) (d : x ≡ signed w64 key) (k : key < 2 ^ 64) where
-    of_range_lem : (o : Range) → r ≡ o → shown_cells (cells_of (of_range o)) ≡ shown_agreed key low high items
+  module _ (items : List ℕ) (r : Maybe Range) (h : of_range r ≡ range_of key items) (x : ℤ) (d : x ≡ signed w64 key) (k : key < 2 ^ 64) where
+    of_range_lem : (o : Maybe Range) → r ≡ o → shown_cells (cells_of (of_range o)) ≡ shown_agreed key low high items
     unfolding shown_agreed range_of
     of_range_lem o i = ap (λ (y : Option (ℕ × ℕ)). shown_cells (cells_of y)) (sym (ap of_range i) ∙ h) ∙ ap shown_cells (by_range (first_row key (rows_of 4 items)))
 
     pub row_listed :
-        (a b v : ℕ) → r ≡ Range.Listed a b → v ≡ highest low high (a, b) → (y z : ℤ) → y ≡ signed w64 v → z ≡ signed w64 b → v < 2 ^ 64 → b < 2 ^ 64
+        (t : Range) (v : ℕ) → r ≡ Some t → v ≡ highest low high (t.min, t.max) → (y z : ℤ) → y ≡ signed w64 v → z ≡ signed w64 t.max → v < 2 ^ 64 → t.max < 2 ^ 64
         → to_z Mir.w64 (of_z Mir.w64 x) ∷ to_z Mir.w64 (of_z Mir.w64 y) ∷ to_z Mir.w64 (of_z Mir.w64 z) ∷ [] ≡ shown_agreed key low high items
     unfolding shown_cells
-    row_listed a b v i j y z f g m n = (λ t. back key x k d t ∷ (back v y m f ∙ ap (signed w64) j) t ∷ back b z n g t ∷ []) ∙ of_range_lem (Range.Listed a b) i
+    row_listed t v i j y z f g m n = (λ s. back key x k d s ∷ (back v y m f ∙ ap (signed w64) j) s ∷ back t.max z n g s ∷ []) ∙ of_range_lem (Some t) i
 
-    pub row_unlisted : r ≡ Range.Unlisted → to_z Mir.w64 (of_z Mir.w64 x) ∷ negsuc 0 ∷ negsuc 0 ∷ [] ≡ shown_agreed key low high items
+    pub row_unlisted : r ≡ None → to_z Mir.w64 (of_z Mir.w64 x) ∷ negsuc 0 ∷ negsuc 0 ∷ [] ≡ shown_agreed key low high items
     unfolding shown_cells signed
-    row_unlisted i = ap (λ (y : ℤ). y ∷ negsuc 0 ∷ negsuc 0 ∷ []) (back key x k d) ∙ of_range_lem Range.Unlisted i
+    row_unlisted i = ap (λ (y : ℤ). y ∷ negsuc 0 ∷ negsuc 0 ∷ []) (back key x k d) ∙ of_range_lem None i
 
 pub three_rows : (items : List ℕ) (a b c : List ℤ) → a ≡ shown_agreed 18 0 3 items → b ≡ shown_agreed 3 0 4 items → c ≡ shown_agreed 1 4 4 items → a ∷ b ∷ c ∷ [] ≡ shown_agreement items
 unfolding shown_agreement shown_agreed agreement

@@ -1,14 +1,14 @@
 -- What agreement says of a broker's rows, as the code hands it back: signed numbers in place of cells.
-use Rattle.std.specs.Prelude.{List, map, ℕ, ℤ, get_or}
+use Rattle.std.specs.Prelude.{List, map, ℕ, ℤ, get_or, Some, None, Option as Maybe}
 use Rattle.std.proofs.Math.Option.{Option, none, some}
 use Rattle.layout.specs.Primitives.{signed, w64}
 use Rattle.layout.specs.Tables.{first_row, rows_of}
 use Rattle.layout.specs.Agreement.{agreed, agreement}
 use Rattle.api_versions_agreement.specs.declared.Range.{Range}
 
-abbrev pub of_range : Range → Option (ℕ × ℕ)
-of_range (Range.Listed a b) = some (a, b)
-of_range Range.Unlisted = none
+abbrev pub of_range : Maybe Range → Option (ℕ × ℕ)
+of_range (Some r) = some (r.min, r.max)
+of_range None = none
 
 -- the minimum and the maximum of a row
 abbrev pub range_in : Option (List ℕ) → Option (ℕ × ℕ)

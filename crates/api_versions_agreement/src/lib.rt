@@ -2,67 +2,55 @@
 #![tactic(auto)]
 
 ghost use Rattle.std.specs.Prelude.{◌≡◌};
-ghost use Rattle.layout.specs.Agreement.{highest, smaller};
+ghost use Rattle.layout.specs.Agreement.{highest};
 ghost use Rattle.api_versions_agreement.specs.Agreed.{of_range, range_of, shown_agreed, shown_agreement};
 
-use primitives::signs;
-
-// The cell of -1: no version, and the maximum of a key that is not listed.
-const NONE: u64 = 18446744073709551615;
+use primitives::MINUS_ONE;
+use primitives::signs::signed;
 
 // Cells from here on are negative numbers.
 const NEGATIVE: u64 = 9223372036854775808;
 
 // The broker's versions of a key, as the cells of its row.
-#[derive(Drop)]
-pub enum Range {
-    Listed { min: u64, max: u64 },
-    Unlisted,
+#[derive(Clone, Copy)]
+pub struct Range {
+    pub min: u64,
+    pub max: u64,
 }
 
 // The first row of the key decides. A row is key, minimum, maximum and number of tags; a cut row is no row.
-fn range_of(items: &[u64], key: u64) -> Range
+fn range_of(items: &[u64], key: u64) -> Option<Range>
     ensures { of_range result ≡ range_of key items.now }
 {
-    let n = items.len() / 4;
-    let mut i: usize = 0;
-    while i < n {
-        if items[i * 4] == key {
-            return Range::Listed {
-                min: items[i * 4 + 1],
-                max: items[i * 4 + 2],
-            };
+    let (rows, _) = items.as_chunks::<4>();
+    for row in rows {
+        if row[0] == key {
+            return Some(Range {
+                min: row[1],
+                max: row[2],
+            });
         }
-        i = i + 1;
     }
-    Range::Unlisted
+    None
 }
 
-fn smaller(a: u64, b: u64) -> u64
-    ensures { result ≡ smaller a b }
+// The highest version that low to high and the broker's range have in common: a cell, that of -1 where there is none, as a row tells it.
+#[tactic(auto, unfolding(layout::specs::Agreement::highest, layout::specs::Agreement::negative, layout::specs::Agreement::reaches, layout::specs::Agreement::smaller))]
+fn highest_common(low: u64, high: u64, theirs: Range) -> u64
+    ensures { result ≡ highest low high (theirs.min, theirs.max) }
 {
-    if a <= b {
-        return a;
+    if NEGATIVE <= theirs.max {
+        return MINUS_ONE;
     }
-    b
-}
-
-// The highest version that low to high and min to max have in common.
-fn highest_common(low: u64, high: u64, min: u64, max: u64) -> u64
-    ensures { result ≡ highest low high (min, max) }
-{
-    if NEGATIVE <= max {
-        return NONE;
-    }
-    let v = smaller(high, max);
+    let v = high.min(theirs.max);
     if v < low {
-        return NONE;
+        return MINUS_ONE;
     }
-    if NEGATIVE <= min {
+    if NEGATIVE <= theirs.min {
         return v;
     }
-    if v < min {
-        return NONE;
+    if v < theirs.min {
+        return MINUS_ONE;
     }
     v
 }
@@ -72,12 +60,12 @@ fn agreed(items: &[u64], key: u64, low: u64, high: u64) -> [i64; 3]
     ensures { result ≡ shown_agreed key low high items.now }
 {
     match range_of(items, key) {
-        Range::Listed { min, max } => [
-            signs::signed(key),
-            signs::signed(highest_common(low, high, min, max)),
-            signs::signed(max),
+        Some(theirs) => [
+            signed(key),
+            signed(highest_common(low, high, theirs)),
+            signed(theirs.max),
         ],
-        Range::Unlisted => [signs::signed(key), -1, -1],
+        None => [signed(key), -1, -1],
     }
 }
 

@@ -8,6 +8,7 @@ use native.Mathlib.Omega.{arith}
 use lib.Dec.{eqb, leb}
 use lib.IntN.{ℤ}
 use borrow.Author.Tests.{eq-eqb, ne_eqb}
+use Rattle.std.specs.Prelude.{None, Some}
 use Rattle.layout.specs.Answers.{meant, named_fault, none_yet}
 use Rattle.layout.specs.Messages.ApiVersions.{request}
 use Rattle.layout.specs.Names.{Sought, blame, name_fault, past, there}
@@ -21,9 +22,8 @@ use Rattle.primitives.proofs.Versions.{known}
 use Rattle.body_writing.specs.Blames.{blame_at, row_blame}
 use Rattle.body_writing.proofs.Counts.{Cells}
 use Rattle.tagged_fields.proofs.Blamed.{front_named}
-use Rattle.api_versions_request.specs.Answers.{of_text}
+use Rattle.api_versions_request.specs.Answers.{Text, of_text}
 use Rattle.api_versions_request.specs.Shapes.{request_shape, texts_if, texts_shape}
-use Rattle.api_versions_request.specs.declared.Text.{Text}
 use Rattle.api_versions_request.proofs.Request.{is_shape, text_of, texts_value}
 
 -- ---- the texts in their order
@@ -41,10 +41,10 @@ module _ (lent : List ℕ) (n : ℕ) (f : Bool) (name version : Text) where
   in_order h = ap (λ (g : Bool). row_blame lent n (texts_if g) nowhere 0 none_yet (of_text name ++ of_text version)) h ∙ go name version
     where
       go : (x y : Text) → row_blame lent n (texts_if true) nowhere 0 none_yet (of_text x ++ of_text y) ≡ cond (eqb (unless (utf8 (text_of lent x)) 7) n) (there nowhere 0) (cond (eqb (unless (utf8 (text_of lent y)) 7) n) (there nowhere 1) (past none_yet))
-      go Text.Absent Text.Absent = refl
-      go Text.Absent (Text.Present b m) = refl
-      go (Text.Present a k) Text.Absent = refl
-      go (Text.Present a k) (Text.Present b m) = refl
+      go None None = refl
+      go None (Some b) = refl
+      go (Some a) None = refl
+      go (Some a) (Some b) = refl
 
   -- a and b are their faults, as code finds them
   module _ (h : f ≡ true) {x : List ℕ} (u : x ≡ text_of lent name) (a : ℕ) (i : a ≡ unless (utf8 x) 7) where
@@ -72,10 +72,10 @@ module _ (lent tags : List ℕ) (cells : Cells tags) (x : Refusal) (some : x.num
 
   alone : (a b : Text) → (value_of lent (texts_shape end) 0 ((of_text a ++ of_text b) ∷ [])).0 ≡ (text_of lent a, (text_of lent b, tt))
   unfolding value_of pop width
-  alone Text.Absent Text.Absent = refl
-  alone Text.Absent (Text.Present b m) = refl
-  alone (Text.Present a n) Text.Absent = refl
-  alone (Text.Present a n) (Text.Present b m) = refl
+  alone None None = refl
+  alone None (Some b) = refl
+  alone (Some a) None = refl
+  alone (Some a) (Some b) = refl
 
   whole : (f : Bool) → name_fault 1 (texts_if f) none_yet (meant lent ((of_text name ++ of_text version) ∷ []) (texts_if f)) x ≡ name_fault 1 (request_shape f) none_yet (meant lent (row ∷ tags ∷ []) (request_shape f)) x
   unfolding name_fault blame meant

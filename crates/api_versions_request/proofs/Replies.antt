@@ -6,7 +6,7 @@ use Prim.Native.Nat.{◌/◌, ◌<◌, ◌≤◌, ℕ}
 use native.Mathlib.Omega.{arith}
 use lib.IntN.{pos, ℤ}
 use lib.ListN.{length}
-use Rattle.layout.specs.Reading.{Refusal, Res, bad, because, no_room, ok}
+use Rattle.layout.specs.Reading.{Refusal, Res, bad, no_room, ok}
 use Rattle.layout.specs.Primitives.{compact, minus, never}
 use Rattle.layout.specs.Rows.{Basic, Shape, at, field, optional, standing, stands, tag_rows, text}
 use Rattle.layout.specs.Read.{by_place, read_basic}
@@ -14,16 +14,16 @@ use Rattle.layout.specs.Tables.{Tables, absent_cells, all, arrays, cells, from, 
 use Rattle.layout.specs.Answers.{Answer, accepted, prefix_read, refused, shape, widths}
 use Rattle.layout.specs.Messages.ApiVersions as Api
 use Rattle.layout.specs.Messages.ApiVersions.{request_rows}
-use Rattle.primitives.specs.Answers.{of_refusal, version_of}
+use Rattle.primitives.specs.Answers.{of_refusal}
+use Rattle.std.specs.Prelude.{Result, Ok, Err}
 use Rattle.primitives.specs.declared.Refusal as Code
 use Rattle.body_reading.specs.Store.{State, Tab, add, own, put, store, tab}
 use Rattle.body_reading.specs.Tagged.{tags_shape}
 use Rattle.body_reading.specs.Walk.{Runs, on, walk}
 use Rattle.tagged_fields.specs.Read.{in_tables, in_tables_is}
-use Rattle.tagged_fields.specs.declared.reading.Walked.{Walked}
+use Rattle.body_reading.specs.declared.walks.Counted.{Counted}
 use Rattle.api_versions_request.specs.Answers.{of_request}
 use Rattle.api_versions_request.specs.Walks.{of_request_walked}
-use Rattle.api_versions_request.specs.declared.RequestBody.{RequestBody}
 use Rattle.api_versions_request.specs.declared.reading.RequestWalked.{RequestWalked}
 use Rattle.layout.proofs.Tests.{le-false}
 use Rattle.body_reading.proofs.Arrays.{row_end}
@@ -33,9 +33,6 @@ use Rattle.layout.proofs.Local.{not_ok}
 use Rattle.layout.proofs.Proper.{api_request}
 use Rattle.body_reading.proofs.Bound.{lean, slim, taken}
 use Rattle.body_reading.proofs.Close.{slices}
-use Rattle.body_reading.proofs.Reply.{answers_long}
-use Rattle.primitives.proofs.Versions as Versions
-use Rattle.primitives.proofs.Versions.{unknown}
 
 abbrev start : List ℕ → List ℕ → State
 start l row = own row ∷ tab l 0 ∷ []
@@ -77,16 +74,16 @@ module _ (s l : List ℕ) where
       unfolding read_basic cells span add store put
       behind_version e = behind_name (field_took false some_text (tags_shape true 1) 0 (start l (2 ∷ a ∷ k ∷ [])) s q (b, m) u _ f e)
 
-      module _ (l' : List ℕ) (r : Walked) (h : Runs (λ e. walk e.0 (tags_shape true e.1.t) e.1.o) s u (in_tables l 0) (in_tables_is l' r)) where
+      module _ (l' : List ℕ) (r : Result Counted Code.Refusal) (h : Runs (λ e. walk e.0 (tags_shape true e.1.t) e.1.o) s u (in_tables l 0) (in_tables_is l' r)) where
         abbrev row : Tab
         row = own (2 ∷ a ∷ k ∷ 2 ∷ b ∷ m ∷ [])
 
-        pub no_tags : (c : Code.Refusal) → r ≡ Walked.Refused c → bad (of_refusal c) ≡ walked
+        pub no_tags : (c : Code.Refusal) → r ≡ Err c → bad (of_refusal c) ≡ walked
         no_tags c e = behind_version (ap (λ y. in_tables_is l' y (false, alone, row)) (sym e) ∙ h.law (false, alone, row))
 
-        pub all_took : (n v j : ℕ) → r ≡ Walked.Took n v j → ok (own (2 ∷ a ∷ k ∷ 2 ∷ b ∷ m ∷ n ∷ []) ∷ tab l' j ∷ []) v ≡ walked
+        pub all_took : (n : Counted) → r ≡ Ok n → ok (own (2 ∷ a ∷ k ∷ 2 ∷ b ∷ m ∷ n.count ∷ []) ∷ tab l' n.mark ∷ []) n.next ≡ walked
         unfolding store put
-        all_took n v j e = behind_version (ap (λ y. in_tables_is l' y (false, alone, row)) (sym e) ∙ h.law (false, alone, row))
+        all_took n e = behind_version (ap (λ y. in_tables_is l' y (false, alone, row)) (sym e) ∙ h.law (false, alone, row))
 
 -- ---- the versions below
 
@@ -106,30 +103,21 @@ tag_width : widths Api.request ≡ 3 ∷ []
 unfolding widths from kind_of kind_in arrays row_width width shape at stands standing tag_rows request_rows
 tag_width = refl
 
-module _ (z : ℤ) (v : ℕ) (g : v ≡ version_of z) (s l : List ℕ) where
-  pub reply_unknown : 3 < v → (c : Refusal) → c ≡ because 1 0 → (refused c, l ∷ []) ≡ prefix_read Api.request z (l ∷ []) s
-  unfolding prefix_read
-  reply_unknown h c e = unknown Api.request z v g h false s (l ∷ []) c e
+module _ (z : ℤ) (v : ℕ) (g : pos v ≡ z) (known : v ≤ 3) (s l : List ℕ) (size : length s ≤ 1048576) where
+  of_version : {x : Answer × Tables} → x ≡ prefix_read Api.request (pos v) (l ∷ []) s → x ≡ prefix_read Api.request z (l ∷ []) s
+  of_version e = e ∙ ap (λ (y : ℤ). prefix_read Api.request y (l ∷ []) s) g
 
-  module _ (known : v ≤ 3) where
-    of_version : {x : Answer × Tables} → x ≡ prefix_read Api.request (pos v) (l ∷ []) s → x ≡ prefix_read Api.request z (l ∷ []) s
-    of_version e = e ∙ ap (λ (y : ℤ). prefix_read Api.request y (l ∷ []) s) (Versions.known Api.request z v g known (omega arith))
+  module _ (t₀ t₁ : List ℕ) (r : Result RequestWalked Code.Refusal) (first : of_request_walked t₁ r ≡ on (walk false (shape Api.request v) 0 (own [] ∷ tab t₀ 0 ∷ [])) s 0) (empty : length t₁ ≡ 0) where
+    pub reply_no : (c : Code.Refusal) → r ≡ Err c → (refused (of_refusal c), (t₁ ++ l) ∷ []) ≡ prefix_read Api.request z (l ∷ []) s
+    reply_no c e = of_version (one_no Api.request api_request is_slim refl 3 tag_width v known s l size t₀ t₁ empty (of_refusal c) (ap (of_request_walked t₁) (sym e) ∙ first))
 
-    pub reply_long : 1048576 < length s → (c : Refusal) → c ≡ because 2 0 → (refused c, l ∷ []) ≡ prefix_read Api.request z (l ∷ []) s
-    unfolding prefix_read
-    reply_long h c e = of_version (answers_long Api.request false v s (l ∷ []) c e known h)
+    module _ (b : RequestWalked) (e : r ≡ Ok b) where
+      pub reply_needs : length (t₁ ++ l) / 3 < b.mark / 3 → (c : Refusal) → c ≡ no_room (b.mark / 3) → (refused c, (t₁ ++ l) ∷ []) ≡ prefix_read Api.request z (l ∷ []) s
+      reply_needs h c i = of_version (one_needs Api.request api_request is_slim refl 3 tag_width v known s l size t₀ t₁ empty (of_request b.body) b.next b.mark (ap (of_request_walked t₁) (sym e) ∙ first) h c i)
 
-    module _ (size : length s ≤ 1048576) (t₀ t₁ : List ℕ) (r : RequestWalked) (first : of_request_walked t₁ r ≡ on (walk false (shape Api.request v) 0 (own [] ∷ tab t₀ 0 ∷ [])) s 0) (empty : length t₁ ≡ 0) where
-      pub reply_no : (c : Code.Refusal) → r ≡ RequestWalked.Refused c → (refused (of_refusal c), (t₁ ++ l) ∷ []) ≡ prefix_read Api.request z (l ∷ []) s
-      reply_no c e = of_version (one_no Api.request api_request is_slim refl 3 tag_width v known s l size t₀ t₁ empty (of_refusal c) (ap (of_request_walked t₁) (sym e) ∙ first))
-
-      module _ (b : RequestBody) (q k : ℕ) (e : r ≡ RequestWalked.Took b q k) where
-        pub reply_needs : length (t₁ ++ l) / 3 < k / 3 → (c : Refusal) → c ≡ no_room (k / 3) → (refused c, (t₁ ++ l) ∷ []) ≡ prefix_read Api.request z (l ∷ []) s
-        reply_needs h c i = of_version (one_needs Api.request api_request is_slim refl 3 tag_width v known s l size t₀ t₁ empty (of_request b) q k (ap (of_request_walked t₁) (sym e) ∙ first) h c i)
-
-        pub reply_took : k / 3 ≤ length (t₁ ++ l) / 3 → (l₂ : List ℕ) (r₂ : RequestWalked) → of_request_walked l₂ r₂ ≡ on (walk false (shape Api.request v) 0 (own [] ∷ tab (t₁ ++ l) 0 ∷ [])) s 0 → (accepted (of_request b) q, l₂ ∷ []) ≡ prefix_read Api.request z (l ∷ []) s
-        reply_took h l₂ r₂ d = of_version (one_took Api.request api_request is_slim refl 3 tag_width v known s l size t₀ t₁ empty (of_request b) q k (ap (of_request_walked t₁) (sym e) ∙ first) h l₂ (of_request_walked l₂ r₂) (λ x m i. holds r₂ x m i) d)
-          where
-            holds : (r₂ : RequestWalked) (x : State) (m : ℕ) → of_request_walked l₂ r₂ ≡ ok x m → slices x ≡ l₂ ∷ []
-            holds (RequestWalked.Took c u j) x m i = let y : own (of_request c) ∷ tab l₂ j ∷ [] ≡ x = cc in ap slices (sym y)
-            holds (RequestWalked.Refused c) x m i = not_ok i
+      pub reply_took : b.mark / 3 ≤ length (t₁ ++ l) / 3 → (l₂ : List ℕ) (r₂ : Result RequestWalked Code.Refusal) → of_request_walked l₂ r₂ ≡ on (walk false (shape Api.request v) 0 (own [] ∷ tab (t₁ ++ l) 0 ∷ [])) s 0 → (accepted (of_request b.body) b.next, l₂ ∷ []) ≡ prefix_read Api.request z (l ∷ []) s
+      reply_took h l₂ r₂ d = of_version (one_took Api.request api_request is_slim refl 3 tag_width v known s l size t₀ t₁ empty (of_request b.body) b.next b.mark (ap (of_request_walked t₁) (sym e) ∙ first) h l₂ (of_request_walked l₂ r₂) (λ x m i. holds r₂ x m i) d)
+        where
+          holds : (r₂ : Result RequestWalked Code.Refusal) (x : State) (m : ℕ) → of_request_walked l₂ r₂ ≡ ok x m → slices x ≡ l₂ ∷ []
+          holds (Ok c) x m i = let y : own (of_request c.body) ∷ tab l₂ c.mark ∷ [] ≡ x = cc in ap slices (sym y)
+          holds (Err c) x m i = not_ok i

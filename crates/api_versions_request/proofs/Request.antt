@@ -31,8 +31,9 @@ use Rattle.primitives_put.proofs.Stored.{put_step}
 use Rattle.body_writing.proofs.Counts.{Cells}
 use Rattle.tagged_fields.proofs.Tags as Tags
 use Rattle.body_writing.proofs.Called.{called}
-use Rattle.api_versions_request.specs.Answers.{of_text}
-use Rattle.api_versions_request.specs.declared.Text.{Text}
+use Rattle.std.specs.Prelude.{Some, None}
+use Rattle.primitives.specs.declared.Span.{Span}
+use Rattle.api_versions_request.specs.Answers.{Text, of_text}
 use Rattle.api_versions_request.specs.Shapes.{request_shape, text_field, texts_shape}
 
 pub is_shape : (v : ℕ) → v ≤ 3 → shape request v ≡ request_shape (leb 3 v)
@@ -45,19 +46,19 @@ abbrev pub text_of : List ℕ → Text → List ℕ
 text_of lent t = basic_of lent (text_field true) (of_text t)
 
 module _ (t : Text) where
-  pub bytes_absent : t ≡ Text.Absent → (lent x : List ℕ) → x ≡ slice lent (0, 0) → x ≡ text_of lent t
+  pub bytes_absent : t ≡ None → (lent x : List ℕ) → x ≡ slice lent (0, 0) → x ≡ text_of lent t
   unfolding basic_of span_of chosen
   bytes_absent h lent x e = e ∙ sym (ap (text_of lent) h)
 
-  pub bytes_present : {a k : ℕ} → t ≡ Text.Present a k → (lent x : List ℕ) → x ≡ slice lent (a, k) → x ≡ text_of lent t
+  pub bytes_present : {p : Span} → t ≡ Some p → (lent x : List ℕ) → x ≡ slice lent (p.start, p.len) → x ≡ text_of lent t
   unfolding basic_of span_of chosen
   bytes_present h lent x e = e ∙ sym (ap (text_of lent) h)
 
-  pub ranged_absent : t ≡ Text.Absent → (size : ℕ) → true ≡ good_cells size (text_field true) (of_text t)
+  pub ranged_absent : t ≡ None → (size : ℕ) → true ≡ good_cells size (text_field true) (of_text t)
   unfolding good_cells
   ranged_absent h size = sym (ap (λ (u : Text). good_cells size (text_field true) (of_text u)) h)
 
-  pub ranged_present : {a k : ℕ} → t ≡ Text.Present a k → (size : ℕ) (b : Bool) → b ≡ inside size a k → b ≡ good_cells size (text_field true) (of_text t)
+  pub ranged_present : {p : Span} → t ≡ Some p → (size : ℕ) (b : Bool) → b ≡ inside size p.start p.len → b ≡ good_cells size (text_field true) (of_text t)
   unfolding good_cells good_span
   ranged_present h size b e = e ∙ sym (ap (λ (u : Text). good_cells size (text_field true) (of_text u)) h)
 
@@ -72,17 +73,17 @@ module _ (size : ℕ) (name version : Text) (own : ℕ) (tags : List ℕ) where
 
   own_good : (x y : Text) → good_row size (request_shape false) (of_text x ++ (of_text y ++ (own ∷ []))) ≡ (good_cells size (text_field true) (of_text x) && (good_cells size (text_field true) (of_text y) && good_count true own))
   unfolding good_row good_cells good_span width
-  own_good Text.Absent Text.Absent = and-true _
-  own_good Text.Absent (Text.Present b m) = ap (λ (z : Bool). inside size b m && z) (and-true _)
-  own_good (Text.Present a k) Text.Absent = ap (λ (z : Bool). inside size a k && z) (and-true _)
-  own_good (Text.Present a k) (Text.Present b m) = ap (λ (z : Bool). inside size a k && (inside size b m && z)) (and-true _)
+  own_good None None = and-true _
+  own_good None (Some b) = ap (λ (z : Bool). inside size b.start b.len && z) (and-true _)
+  own_good (Some a) None = ap (λ (z : Bool). inside size a.start a.len && z) (and-true _)
+  own_good (Some a) (Some b) = ap (λ (z : Bool). inside size a.start a.len && (inside size b.start b.len && z)) (and-true _)
 
   own_told : (x y : Text) → asked 1 (request_shape false) (of_text x ++ (of_text y ++ (own ∷ []))) ≡ count own
   unfolding asked width
-  own_told Text.Absent Text.Absent = add-zero (count own)
-  own_told Text.Absent (Text.Present b m) = add-zero (count own)
-  own_told (Text.Present a k) Text.Absent = add-zero (count own)
-  own_told (Text.Present a k) (Text.Present b m) = add-zero (count own)
+  own_told None None = add-zero (count own)
+  own_told None (Some b) = add-zero (count own)
+  own_told (Some a) None = add-zero (count own)
+  own_told (Some a) (Some b) = add-zero (count own)
 
   is_good : judged ≡ (good_cells size (text_field true) (of_text name) && (good_cells size (text_field true) (of_text version) && tags_judged))
   unfolding kind_of kind_in arrays
@@ -92,16 +93,9 @@ module _ (size : ℕ) (name version : Text) (own : ℕ) (tags : List ℕ) where
       Tags.tagged_good size (request_shape false) (a && b) own (of_text name ++ (of_text version ++ (own ∷ []))) tags refl (own_good name version ∙ sym (Tags.and_assoc a b (good_count true own))) (own_told name version)
       ∙ Tags.and_assoc a b tags_judged
 
-  module _ (a : Bool) (e : a ≡ good_cells size (text_field true) (of_text name)) where
-    pub name_out : a ≡ false → false ≡ judged
-    name_out h = sym (is_good ∙ rw (← e, h))
-
-    module _ (h : a ≡ true) (b : Bool) (i : b ≡ good_cells size (text_field true) (of_text version)) where
-      pub version_out : b ≡ false → false ≡ judged
-      version_out k = sym (is_good ∙ rw (← e, h, ← i, k))
-
-      pub request_last : b ≡ true → (r : Bool) → r ≡ tags_judged → r ≡ judged
-      request_last k r j = j ∙ sym (is_good ∙ rw (← e, h, ← i, k))
+  -- as code judges it: the texts in turn, and the tags
+  pub good_so : {b : Bool} → b ≡ ((good_cells size (text_field true) (of_text name) && good_cells size (text_field true) (of_text version)) && tags_judged) → b ≡ judged
+  good_so e = e ∙ Tags.and_assoc (good_cells size (text_field true) (of_text name)) (good_cells size (text_field true) (of_text version)) tags_judged ∙ sym is_good
 
   good_rows : judged ≡ true → count own ≡ length tags / 3
   good_rows g = Tags.good_rows size own tags (both (good_cells size (text_field true) (of_text version)) _ (both (good_cells size (text_field true) (of_text name)) _ (sym is_good ∙ g)).1).1
@@ -121,10 +115,10 @@ module _ (lent : List ℕ) (name version : Text) (own : ℕ) (tags : List ℕ) w
   texts_value = go name version
     where
       go : (x y : Text) → value_of lent (texts_shape end) 0 ((of_text x ++ (of_text y ++ (own ∷ []))) ∷ tags ∷ []) ≡ ((text_of lent x, (text_of lent y, tt)), behind)
-      go Text.Absent Text.Absent = refl
-      go Text.Absent (Text.Present b m) = refl
-      go (Text.Present a k) Text.Absent = refl
-      go (Text.Present a k) (Text.Present b m) = refl
+      go None None = refl
+      go None (Some b) = refl
+      go (Some a) None = refl
+      go (Some a) (Some b) = refl
 
   abbrev refusal : Bool → ℕ
   refusal f = refusal_of lent 1 (request_shape false) (request_shape f) rows

@@ -8,9 +8,9 @@ ghost use Rattle.body_reading.specs.Walk.{on};
 ghost use Rattle.names.specs.Walks.{of_named, of_sought};
 ghost use Rattle.api_versions_request.specs.Shapes.{request_shape};
 
-use names::fields::{Passed, compact_string};
+use names::fields::compact_string;
 use names::tags::tags_if;
-use names::{API_VERSIONS_REQUEST, Named, Sought, is_fieldless, named_by, without_field};
+use names::{API_VERSIONS_REQUEST, Found, Named, Sought, is_fieldless, named_by, without_field};
 use primitives::{MINUS_ONE, Refusal};
 
 const TAGS: usize = 1;
@@ -19,17 +19,11 @@ fn body(s: &[u8], q: usize, v: u64, begun: &mut [u64]) -> Sought
     ensures { of_sought begun.new result ≡ on (seek q (request_shape (leb 3 v)) nowhere 0 begun.old) s.now 0 }
 {
     if v < 3 {
-        return Sought::Past(0);
+        return Ok(0);
     }
     let row = MINUS_ONE;
-    let p = match compact_string(s, 0, q) {
-        Passed::After(next) => next,
-        Passed::Stopped => return Sought::Found { row, field: 0 },
-    };
-    let p = match compact_string(s, p, q) {
-        Passed::After(next) => next,
-        Passed::Stopped => return Sought::Found { row, field: 1 },
-    };
+    let p = compact_string(s, 0, q).ok_or(Found { row, field: 0 })?;
+    let p = compact_string(s, p, q).ok_or(Found { row, field: 1 })?;
     tags_if(s, p, q, true, TAGS, row, 2, begun)
 }
 

@@ -14,7 +14,7 @@ ghost use Rattle.api_versions_request.specs.Shapes.{texts_if};
 use crate::Text;
 use crate::writing::bytes_of;
 use body_writing::blames::{Blamed, blamed_by};
-use names::{API_VERSIONS_REQUEST, Named, is_fieldless, without_field};
+use names::{API_VERSIONS_REQUEST, Found, Named, is_fieldless, without_field};
 use primitives::{MINUS_ONE, NOT_TEXT, Refusal};
 
 // No length is too much for a compact string.
@@ -32,21 +32,21 @@ fn texts(e: u8, flexible: bool, lent: &[u8], name: Text, version: Text) -> Blame
     ensures { of_blamed none_yet result ≡ row_blame lent.now e (texts_if flexible) nowhere 0 none_yet (of_text name ++ of_text version) }
 {
     if !flexible {
-        return Blamed::Past;
+        return Ok(());
     }
     if compact_fault(bytes_of(lent, name)) == e {
-        return Blamed::Found {
+        return Err(Found {
             row: MINUS_ONE,
             field: 0,
-        };
+        });
     }
     if compact_fault(bytes_of(lent, version)) == e {
-        return Blamed::Found {
+        return Err(Found {
             row: MINUS_ONE,
             field: 1,
-        };
+        });
     }
-    Blamed::Past
+    Ok(())
 }
 
 // The refusal e with its name.

@@ -7,107 +7,71 @@ ghost use Rattle.body_reading.specs.Walk.{on, walk};
 ghost use Rattle.api_versions_request.specs.Answers.{of_request_reply};
 ghost use Rattle.api_versions_request.specs.Walks.{of_request_walked};
 
-use crate::{RequestBody, RequestReply, Text};
+use crate::RequestBody;
 use body_reading::places::compact_string_at;
-use primitives::{MOST, NO_VERSION, Part, Refusal, TOO_LONG, at, no_room, version_of};
-use tagged_fields::reading::{Walked, tag_buffer_at};
+use body_reading::walks::admit;
+use primitives::{MINUS_ONE, Read, Refusal, Taken, no_room};
+use tagged_fields::reading::tag_buffer_at;
 
-// The cell of -1: tags that the version lacks.
-const NO_TAGS: u64 = 18446744073709551615;
-
-// The fields, the bytes used, and the mark of the tags' table.
-#[derive(Drop)]
-pub enum RequestWalked {
-    Took {
-        body: RequestBody,
-        used: usize,
-        mark: usize,
-    },
-    Refused(Refusal),
+// The fields, the place after them, and the mark of the tags' table.
+#[derive(Clone, Copy)]
+pub struct RequestWalked {
+    pub body: RequestBody,
+    pub next: usize,
+    pub mark: usize,
 }
 
 // Version 3.
-fn flexible(msg: &[u8], table: &mut [u64]) -> RequestWalked
+fn flexible(msg: &[u8], table: &mut [u64]) -> Result<RequestWalked, Refusal>
     ensures { of_request_walked table.new result ≡ on (walk false (shape Api.request 3) 0 (own [] ∷ tab table.old 0 ∷ [])) msg.now 0 }
 {
-    match compact_string_at(msg, 0) {
-        Part::Took { start, len, used } => match compact_string_at(msg, used) {
-            Part::Took {
-                start: version_start,
-                len: version_len,
-                used: next,
-            } => match tag_buffer_at(msg, next, table, 0) {
-                Walked::Took {
-                    count,
-                    used: all,
-                    mark,
-                } => {
-                    let name = Text::Present { start, len };
-                    let version = Text::Present {
-                        start: version_start,
-                        len: version_len,
-                    };
-                    RequestWalked::Took {
-                        body: RequestBody {
-                            name,
-                            version,
-                            tags: count,
-                        },
-                        used: all,
-                        mark,
-                    }
-                }
-                Walked::Refused(e) => RequestWalked::Refused(e),
-            },
-            Part::Refused(e) => RequestWalked::Refused(e),
+    let name = compact_string_at(msg, 0)?;
+    let version = compact_string_at(msg, name.next)?;
+    let tags = tag_buffer_at(msg, version.next, table, 0)?;
+    Ok(RequestWalked {
+        body: RequestBody {
+            name: Some(name.value),
+            version: Some(version.value),
+            tags: tags.count,
         },
-        Part::Refused(e) => RequestWalked::Refused(e),
-    }
+        next: tags.next,
+        mark: tags.mark,
+    })
 }
 
 // Any version; those below 3 have no field.
-fn body(msg: &[u8], version: u64, table: &mut [u64]) -> RequestWalked
+fn body(msg: &[u8], version: u64, table: &mut [u64]) -> Result<RequestWalked, Refusal>
     requires { version ≤ 3 }
     ensures { of_request_walked table.new result ≡ on (walk false (shape Api.request version) 0 (own [] ∷ tab table.old 0 ∷ [])) msg.now 0 }
 {
     if version < 3 {
-        return RequestWalked::Took {
+        return Ok(RequestWalked {
             body: RequestBody {
-                name: Text::Absent,
-                version: Text::Absent,
-                tags: NO_TAGS,
+                name: None,
+                version: None,
+                tags: MINUS_ONE,
             },
-            used: 0,
+            next: 0,
             mark: 0,
-        };
+        });
     }
     flexible(msg, table)
 }
 
 // The request at the front of a message. Its tags' rows go to the table from its start on, three cells each; after a refusal the table is as it was.
-pub fn read(msg: &[u8], version: i64, tags: &mut [u64]) -> RequestReply
+pub fn read(msg: &[u8], version: i64, tags: &mut [u64]) -> Read<RequestBody>
     ensures { (of_request_reply result, tags.new ∷ []) ≡ prefix_read Api.request version (tags.old ∷ []) msg.now }
 {
-    let v = version_of(version);
-    if 3 < v {
-        return RequestReply::Refused(at(NO_VERSION, 0));
-    }
-    if MOST < msg.len() {
-        return RequestReply::Refused(at(TOO_LONG, 0));
-    }
+    let v = admit(version, 3, msg.len())?;
     // Over no room the walk measures.
-    match body(msg, v, &mut tags[..0]) {
-        RequestWalked::Took {
-            body: fields,
-            used,
-            mark,
-        } => {
-            if tags.len() / 3 < mark / 3 {
-                return RequestReply::Refused(no_room(mark / 3));
-            }
-            body(msg, v, tags);
-            RequestReply::Took { body: fields, used }
-        }
-        RequestWalked::Refused(e) => RequestReply::Refused(e),
+    let walked = body(msg, v, &mut tags[..0])?;
+    if tags.len() / 3 < walked.mark / 3 {
+        return Err(no_room(walked.mark / 3));
     }
+    // What fits the table is read again as it was.
+    let _ = body(msg, v, tags);
+    Ok(Taken {
+        value: walked.body,
+        next: walked.next,
+    })
 }

@@ -16,7 +16,7 @@ ghost use Rattle.api_versions_request.specs.Shapes.{request_shape, text_field, t
 
 use crate::{RequestBody, Text};
 use body_writing::ranges::{is_inside, part};
-use primitives::{BAD_TABLES, MOST, NO_VERSION, NOT_TEXT, TOO_LONG, at, no_room, version_of};
+use primitives::{BAD_TABLES, MOST, NO_VERSION, NOT_TEXT, Span, TOO_LONG, at, no_room, version_of};
 use primitives_put::{Form, Written};
 use tagged_fields::writing::tag_buffer;
 
@@ -25,8 +25,8 @@ pub(crate) fn bytes_of(lent: &[u8], t: Text) -> &[u8]
     ensures { result.now ≡ basic_of lent.now (text_field true) (of_text t) }
 {
     match t {
-        Text::Absent => part(lent, 0, 0),
-        Text::Present { start, len } => part(lent, start as u64, len as u64),
+        None => part(lent, 0, 0),
+        Some(Span { start, len }) => part(lent, start as u64, len as u64),
     }
 }
 
@@ -36,36 +36,26 @@ fn is_ranged(size: usize, t: Text) -> bool
     ensures { result ≡ good_cells size (text_field true) (of_text t) }
 {
     match t {
-        Text::Absent => true,
-        Text::Present { start, len } => is_inside(size, start as u64, len as u64),
+        None => true,
+        Some(Span { start, len }) => is_inside(size, start as u64, len as u64),
     }
 }
 
 fn is_good(size: usize, name: Text, version: Text, own: u64, tags: &[u64]) -> bool
     ensures { result ≡ good size 1 (request_shape false) ((of_text name ++ (of_text version ++ (own ∷ []))) ∷ tags.now ∷ []) }
 {
-    if !is_ranged(size, name) {
-        return false;
-    }
-    if !is_ranged(size, version) {
-        return false;
-    }
-    tagged_fields::writing::is_good(size, own, tags)
+    is_ranged(size, name)
+        && is_ranged(size, version)
+        && tagged_fields::writing::is_good(size, own, tags)
 }
 
 fn are_texts(flexible: bool, name: &[u8], version: &[u8]) -> bool
     ensures { result ≡ cond flexible (Utf8.utf8 name.now && Utf8.utf8 version.now) true }
 {
-    if !flexible {
-        return true;
-    }
-    if !utf8::is_text(name) {
-        return false;
-    }
-    utf8::is_text(version)
+    !flexible || (utf8::is_text(name) && utf8::is_text(version))
 }
 
-// 13, 7, or 0 for neither.
+// 13, 7, or 0 for neither. A number and no Option: its promise is the definition's number, which has 0 for none.
 fn refusal(flexible: bool, lent: &[u8], name: Text, version: Text, own: u64, tags: &[u64]) -> u8
     ensures { result ≡ refusal_of lent.now 1 (request_shape false) (request_shape flexible) ((of_text name ++ (of_text version ++ (own ∷ []))) ∷ tags.now ∷ []) }
 {
@@ -123,13 +113,13 @@ fn stored(
 {
     let all = body(&mut out[..0], flexible, lent, name, version, tags);
     if MOST < all {
-        return Written::Refused(at(TOO_LONG, 0));
+        return Err(at(TOO_LONG, 0));
     }
     if out.len() < all {
-        return Written::Refused(no_room(all));
+        return Err(no_room(all));
     }
     body(out, flexible, lent, name, version, tags);
-    Written::Wrote(all)
+    Ok(all)
 }
 
 // At a version that is known.
@@ -146,7 +136,7 @@ fn written(
 {
     let e = refusal(flexible, lent, name, version, own, tags);
     if e != 0 {
-        return Written::Refused(at(e, 0));
+        return Err(at(e, 0));
     }
     stored(
         out,
@@ -164,9 +154,7 @@ pub fn write(out: &mut [u8], version: i64, lent: &[u8], body: RequestBody, tags:
 {
     let v = version_of(version);
     if 3 < v {
-        return Written::Refused(at(NO_VERSION, 0));
+        return Err(at(NO_VERSION, 0));
     }
-    let name = body.name;
-    let software = body.version;
-    written(out, 3 <= v, lent, name, software, body.tags, tags)
+    written(out, 3 <= v, lent, body.name, body.version, body.tags, tags)
 }

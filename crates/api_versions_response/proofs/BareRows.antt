@@ -1,34 +1,32 @@
 -- An item into the tables: each way out of the walk over it; and one without tags whose bytes are there, of which the byte behind its numbers is 0.
 use mathlib.Core.Bool.{Bool, false, true}
 use mathlib.Core.List.{List, [], ◌∷◌}
-use mathlib.Core.Path.{◌∙◌, ◌≡◌, ap, refl, subst, sym}
-use Prim.Native.Nat.{◌+◌, ◌-◌, ◌<◌, ◌≤◌, suc, zero, ℕ}
+use mathlib.Core.Path.{◌∙◌, ◌≡◌, ap, refl, sym}
+use Prim.Native.Nat.{◌+◌, ◌-◌, ◌≤◌, suc, zero, ℕ}
 use native.Mathlib.Omega.{arith}
-use lib.Dec.{eqb}
-use lib.ListN.{drop, get_or, length, length-drop, take}
-use lib.Seq.{drop-drop, get_or-drop, length-take-le, take_all, take-take}
+use lib.ListN.{drop, length, length-drop, take}
+use lib.Seq.{drop-drop, length-take-le, take-take}
 use Rattle.layout.specs.Reading.{Reader, Refusal, Res, bad, ok}
-use Rattle.layout.specs.Primitives.{be, cell, cell_of, minus, signed, w16}
-use Rattle.layout.specs.Rows.{Shape, Value, end, field, number, standing, stands}
+use Rattle.layout.specs.Primitives.{be, cell, cell_of, signed, w16}
+use Rattle.layout.specs.Rows.{Shape, Value, end, field, number}
 use Rattle.layout.specs.Read.{by_place, read, read_basic}
-use Rattle.layout.specs.Tables.{Span, cells, read_rows}
+use Rattle.layout.specs.Tables.{Span, cells}
 use Rattle.primitives.specs.Answers.{of_refusal}
 use Rattle.primitives.specs.declared.Refusal as Code
-use Rattle.body_reading.specs.Store.{State, Tab, add, own, step, store, tab}
+use Rattle.body_reading.specs.Store.{Tab, add, own, step, store, tab}
 use Rattle.body_reading.specs.Tagged.{tags_if}
 use Rattle.body_reading.specs.Walk.{Places, Runs, on, walk}
 use Rattle.tagged_fields.specs.Read as Tags
-use Rattle.tagged_fields.specs.declared.reading.Walked.{Walked}
+use Rattle.body_reading.specs.Walked.{counted_at}
+use Rattle.body_reading.specs.declared.walks.Counted.{Counted}
+use Rattle.std.specs.Prelude.{Result, Ok, Err}
 use Rattle.api_versions_response.specs.ItemShapes.{key_front, key_shape}
-use Rattle.api_versions_response.specs.ItemWalks.{Bare, IsBare, in_tables, of_key, rows_is}
-use Rattle.api_versions_response.specs.declared.items.Key.{Key}
-use Rattle.api_versions_response.specs.declared.items.Rows.{Rows}
+use Rattle.api_versions_response.specs.ItemWalks.{Bare, IsBare, in_tables, rows_at, rows_is}
 use Rattle.layout.proofs.Contents.{row_cells}
-use Rattle.body_reading.proofs.Arrays.{row_end}
 use Rattle.body_reading.proofs.Front.{front_no, front_took, reads_end, reads_no, reads_took}
+use Rattle.body_reading.proofs.Chains.{same_value}
 use Rattle.body_reading.proofs.Stores.{four_out, store_append}
 use Rattle.layout.proofs.Local.{not_ok}
-use Rattle.layout.proofs.Tests.{of_eq}
 use Rattle.body_reading.proofs.FrontAt.{cell_at}
 use Rattle.tagged_fields.proofs.Replies.{buffer_empty, tags_there}
 
@@ -73,32 +71,32 @@ between : List ℕ → Places
 unfolding add
 between cs = record { h = λ x y. own cs ∷ x ∷ y ∷ []; o = 1; t = 2; row_law = λ x y ds. refl; items_law = λ x y ds. refl }
 
-module _ (f : Bool) (s : List ℕ) (p : ℕ) (is : List ℕ) (i : ℕ) (ts : List ℕ) (t : ℕ) (r : Key) (h : of_key r ≡ on (read (by_place false) key_front) s p) where
-  here_is : (w : Bool) → of_key r ≡ on (read (by_place w) key_front) s p
-  here_is w = h ∙ ap (λ (y : Reader (Value Span key_front)). on y s p) (any_whole w)
+module _ (f : Bool) (s : List ℕ) (p : ℕ) (is : List ℕ) (i : ℕ) (ts : List ℕ) (t : ℕ) where
+  here_is : (o : Res (Value Span key_front)) → o ≡ on (read (by_place false) key_front) s p → (w : Bool) → o ≡ on (read (by_place w) key_front) s p
+  here_is o h w = h ∙ ap (λ (y : Reader (Value Span key_front)). on y s p) (any_whole w)
 
-  pub item_no : (c : Code.Refusal) → r ≡ Key.Refused c → Runs (λ e. walk e.0 (key_shape f) 1) s p (in_tables is i ts t) (λ e. bad (of_refusal c))
+  pub item_no : (c : Refusal) → bad c ≡ on (read (by_place false) key_front) s p → Runs (λ e. walk e.0 (key_shape f) 1) s p (in_tables is i ts t) (λ e. bad c)
   unfolding key_shape
-  item_no c d = record { law = λ e. front_no e.0 (tags_if f 2) 1 key_front tt (in_tables is i ts t e) s p (of_refusal c) (ap of_key (sym d) ∙ here_is e.0) }
+  item_no c d = record { law = λ e. front_no e.0 (tags_if f 2) 1 key_front tt (in_tables is i ts t e) s p c (here_is (bad c) d e.0) }
 
-  module _ (a b c n : ℕ) (d : r ≡ Key.Took a b c n) (ts' : List ℕ) (z : Walked) (l : Runs (λ e. walk e.0 (tags_if f e.1.t) e.1.o) s n (Tags.in_tables ts t) (Tags.in_tables_is ts' z)) where
+  module _ (a b c n : ℕ) (d : ok (a, (b, (c, tt))) n ≡ on (read (by_place false) key_front) s p) (ts' : List ℕ) (z : Result Counted Code.Refusal) (l : Runs (λ e. walk e.0 (tags_if f e.1.t) e.1.o) s n (Tags.in_tables ts t) (Tags.in_tables_is ts' z)) where
     -- the items' table once the numbers are stored
     abbrev numbered : Tab
     numbered = store (tab is i) (a ∷ b ∷ c ∷ [])
 
     from_key : (e : Bool × List ℕ) → Tags.in_tables_is ts' z (e.0, between e.1, numbered) ≡ on (walk e.0 (key_shape f) 1 (in_tables is i ts t e)) s p
     unfolding between key_shape row_cells cells add
-    from_key e = front_took e.0 (tags_if f 2) 1 key_front tt (in_tables is i ts t e) s p (a, (b, (c, tt))) n (ap of_key (sym d) ∙ here_is e.0) _ (l.law (e.0, between e.1, numbered))
+    from_key e = front_took e.0 (tags_if f 2) 1 key_front tt (in_tables is i ts t e) s p (a, (b, (c, tt))) n (here_is (ok (a, (b, (c, tt))) n) d e.0) _ (l.law (e.0, between e.1, numbered))
 
-    pub item_no_tags : (c : Code.Refusal) → z ≡ Walked.Refused c → Runs (λ e. walk e.0 (key_shape f) 1) s p (in_tables is i ts t) (λ e. bad (of_refusal c))
-    item_no_tags c j = record { law = λ e. ap (λ (y : Walked). Tags.in_tables_is ts' y (e.0, between e.1, numbered)) (sym j) ∙ from_key e }
+    pub item_no_tags : (c : Code.Refusal) → z ≡ Err c → Runs (λ e. walk e.0 (key_shape f) 1) s p (in_tables is i ts t) (λ e. bad (of_refusal c))
+    item_no_tags c j = record { law = λ e. ap (λ y. Tags.in_tables_is ts' y (e.0, between e.1, numbered)) (sym j) ∙ from_key e }
 
-    pub item_took : (k u v : ℕ) → z ≡ Walked.Took k u v → (is' : List ℕ) (m : ℕ) → tab is' m ≡ store (tab is i) (a ∷ b ∷ c ∷ k ∷ []) → Runs (λ e. walk e.0 (key_shape f) 1) s p (in_tables is i ts t) (rows_is is' ts' (Rows.Took u m v))
+    pub item_took : (y : Counted) → z ≡ Ok y → (is' : List ℕ) (m : ℕ) → tab is' m ≡ store (tab is i) (a ∷ b ∷ c ∷ y.count ∷ []) → Runs (λ e. walk e.0 (key_shape f) 1) s p (in_tables is i ts t) (rows_is is' ts' (rows_at y.next m y.mark))
     unfolding between
-    item_took k u v j is' m g = record {
+    item_took y j is' m g = record {
       law = λ e.
-          (λ x. ok (own e.1 ∷ (g ∙ sym (store_append (tab is i) (a ∷ b ∷ c ∷ []) (k ∷ []))) x ∷ tab ts' v ∷ []) u)
-          ∙ ap (λ (y : Walked). Tags.in_tables_is ts' y (e.0, between e.1, numbered)) (sym j)
+          (λ x. ok (own e.1 ∷ (g ∙ sym (store_append (tab is i) (a ∷ b ∷ c ∷ []) (y.count ∷ []))) x ∷ tab ts' y.mark ∷ []) y.next)
+          ∙ ap (λ y. Tags.in_tables_is ts' y (e.0, between e.1, numbered)) (sym j)
           ∙ from_key e;
     }
 
@@ -139,34 +137,18 @@ module _ (s : List ℕ) (p : ℕ) (h : p + 6 ≤ length s) where
       let l : length part ≡ p + 6 - p = length-take-le (p + 6 - p) (drop p s) (omega (arith, length-drop p s)) in
       sym (there part 0 (omega arith)) ∙ (λ i. ok (cell_of (signed w16 (same 0 p (omega arith) (omega arith) i)), (cell_of (signed w16 (same 2 (p + 2) (omega arith) (omega arith) i)), (cell_of (signed w16 (same 4 (p + 2 + 2) (omega arith) (omega arith) i)), tt))) 6)
 
-  module _ (r : Key) (d : of_key r ≡ on (read (by_place false) key_front) part 0) where
-    pub bare_stored : (a b c n : ℕ) → r ≡ Key.Took a b c n → (l : List ℕ) (k : ℕ) (l' : List ℕ) (m : ℕ) → tab l' m ≡ store (tab l k) (a ∷ b ∷ c ∷ 0 ∷ []) → Bare s p l k l' m
-    bare_stored a b c n e l k l' m i = record { key = a; min = b; max = c; reads = ap (λ (v : Value Span key_front). ok v (p + 6)) (value (ap of_key (sym e) ∙ d ∙ on_part)) ∙ there s p h; stored = i }
-      where
-        value : {x y : Value Span key_front} {u v : ℕ} → ok x u ≡ ok y v → x ≡ y
-        value q = cc
+  pub bare_stored : (a b c n : ℕ) → ok (a, (b, (c, tt))) n ≡ on (read (by_place false) key_front) part 0 → (l : List ℕ) (k : ℕ) (l' : List ℕ) (m : ℕ) → tab l' m ≡ store (tab l k) (a ∷ b ∷ c ∷ 0 ∷ []) → Bare s p l k l' m
+  bare_stored a b c n d l k l' m i = record { key = a; min = b; max = c; reads = ap (λ (v : Value Span key_front). ok v (p + 6)) (same_value (d ∙ on_part)) ∙ there s p h; stored = i }
 
-    pub bare_never : {X : Type 0} (e : Code.Refusal) → r ≡ Key.Refused e → X
-    bare_never e i = not_ok (ap of_key (sym i) ∙ d ∙ on_part)
-
-is_bare : (f : Bool) (s : List ℕ) (p : ℕ) → f ≡ true → p + 6 < length s → IsBare f s p (eqb (get_or s (p + 6) 0) 0)
-is_bare f s p e h = record { flexible = λ r. e; whole = λ r. h; empty = λ r. of_eq _ _ r }
-
--- looked at on the rest as code cuts it out
-pub is_bare_cut : (f : Bool) (s : List ℕ) (p : ℕ) → f ≡ true → p + 6 < length s → IsBare f s p (eqb (get_or (take (length s - p) (drop p s)) 6 0) 0)
-is_bare_cut f s p e h =
-    let a : get_or (take (length s - p) (drop p s)) 6 0 ≡ get_or s (p + 6) 0 = ap (λ (t : List ℕ). get_or t 6 0) (take_all (length s - p) (drop p s) (omega (arith, length-drop p s))) ∙ get_or-drop p s 6 0 in
-    subst (λ (n : ℕ). IsBare f s p (eqb n 0)) (sym a) (is_bare f s p e h)
+  pub bare_never : {X : Type 0} (e : Refusal) → bad e ≡ on (read (by_place false) key_front) part 0 → X
+  bare_never e d = not_ok (d ∙ on_part)
 
 pub never : {X : Type 0} → false ≡ true → X
 never r = let z : ◌≡◌ {A = ℕ} 0 1 = cc in absurd (omega arith)
 
-pub not_bare : (f : Bool) (s : List ℕ) (p : ℕ) → IsBare f s p false
-not_bare f s p = record { flexible = λ r. never r; whole = λ r. never r; empty = λ r. never r }
-
 pub bare_item : (f : Bool) (s : List ℕ) (p : ℕ) (is : List ℕ) (i : ℕ) (ts : List ℕ) (t : ℕ) (r : Bool) → IsBare f s p r → r ≡ true → (is' : List ℕ) (m : ℕ) → Bare s p is i is' m →
-    Runs (λ e. walk e.0 (key_shape f) 1) s p (in_tables is i ts t) (rows_is is' ts (Rows.Took (p + 7) m t))
+    Runs (λ e. walk e.0 (key_shape f) 1) s p (in_tables is i ts t) (rows_is is' ts (rows_at (p + 7) m t))
 bare_item f s p is i ts t r d g is' m b =
     let n : p + 6 + 1 ≡ p + 7 = omega arith in
-    item_took f s p is i ts t (Key.Took b.key b.min b.max (p + 6)) b.reads _ _ _ _ refl ts (Walked.Took 0 (p + 6 + 1) t)
-    (tags_there f s (p + 6) ts t (d.flexible g) ts (Walked.Took 0 (p + 6 + 1) t) (buffer_empty s (p + 6) ts t (d.whole g) (sym (d.empty g)))) 0 (p + 7) t (ap (λ (u : ℕ). Walked.Took 0 u t) n) is' m b.stored
+    item_took f s p is i ts t b.key b.min b.max (p + 6) b.reads ts (counted_at 0 (p + 6 + 1) t)
+    (tags_there f s (p + 6) ts t (d.flexible g) ts (counted_at 0 (p + 6 + 1) t) (buffer_empty s (p + 6) ts t (d.whole g) (sym (d.empty g)))) (record { count = 0; next = p + 7; mark = t }) (ap (λ (u : ℕ). counted_at 0 u t) n) is' m b.stored

@@ -18,8 +18,9 @@ use Rattle.layout.specs.Write.{basic_fault, unless}
 use Rattle.layout.proofs.Chunks.{row_cell}
 use Rattle.primitives_put.specs.Answers.{within}
 use Rattle.body_reading.proofs.Front.{Flat}
-use Rattle.body_writing.specs.Blames.{blame_at, of_blamed, row_blame, rows_blame}
-use Rattle.body_writing.specs.declared.blames.Blamed.{Blamed}
+use Rattle.std.specs.Prelude.{Err, Ok}
+use Rattle.names.specs.declared.Found.{Found}
+use Rattle.body_writing.specs.Blames.{Blamed, blame_at, of_blamed, row_blame, rows_blame}
 use Rattle.body_writing.proofs.Blaming.{any_counts, number_here, number_next}
 use Rattle.api_versions_response.specs.Blames.{response_blame}
 use Rattle.api_versions_response.specs.ItemShapes.{key_front}
@@ -105,12 +106,12 @@ module _ (e : ℕ) (t : Bool) (error n : ℕ) (items c : List ℕ) (a : ℕ) (q 
         ap (λ (s : Sought). else s (λ d. row_blame [] e (throttle_shape t end) nowhere 2 d (2 ∷ n ∷ []))) h
         ∙ sym (ap (λ (s : Sought). else s (λ c₁. else (rows_blame [] e key_front 4 1 items c₁) (λ c₂. row_blame [] e (throttle_shape t end) nowhere 2 c₂ (2 ∷ n ∷ [])))) (number_next [] e nowhere 0 c (error ∷ []) 0 w16 end a q g))
 
-    pub items_here : (row f : ℕ) → x ≡ Blamed.Found row f → there row f ≡ parts
-    items_here row f p = sym (ap (λ (y : Blamed). else (of_blamed c' y) (λ d. row_blame [] e (throttle_shape t end) nowhere 2 d (2 ∷ n ∷ []))) p) ∙ error_next
+    pub items_here : (a : Found) → x ≡ Err a → there a.row a.field ≡ parts
+    items_here a p = sym (ap (λ (y : Blamed). else (of_blamed c' y) (λ d. row_blame [] e (throttle_shape t end) nowhere 2 d (2 ∷ n ∷ []))) p) ∙ error_next
 
     flat_throttle : (b : Bool) → Flat (throttle_shape b end)
     flat_throttle true = tt
     flat_throttle false = tt
 
-    pub items_past : x ≡ Blamed.Past → (y : Blamed) → of_blamed [] y ≡ row_blame [] e (throttle_shape t end) nowhere 2 [] (2 ∷ n ∷ []) → of_blamed c' y ≡ parts
-    items_past p y u = any_counts [] e (throttle_shape t end) (flat_throttle t) nowhere 2 (2 ∷ n ∷ []) y u c' ∙ sym (ap (λ (y : Blamed). else (of_blamed c' y) (λ d. row_blame [] e (throttle_shape t end) nowhere 2 d (2 ∷ n ∷ []))) p) ∙ error_next
+    pub items_past : (o : Unit {0}) → x ≡ Ok o → (y : Blamed) → of_blamed [] y ≡ row_blame [] e (throttle_shape t end) nowhere 2 [] (2 ∷ n ∷ []) → of_blamed c' y ≡ parts
+    items_past o p y u = any_counts [] e (throttle_shape t end) (flat_throttle t) nowhere 2 (2 ∷ n ∷ []) y u c' ∙ sym (ap (λ (y : Blamed). else (of_blamed c' y) (λ d. row_blame [] e (throttle_shape t end) nowhere 2 d (2 ∷ n ∷ []))) p) ∙ error_next

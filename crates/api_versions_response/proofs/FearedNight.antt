@@ -7,13 +7,15 @@ use Prim.Native.Nat.{◌+◌, ◌≤◌, ℕ}
 use native.Mathlib.Omega.{arith}
 use lib.IntN.{pos, ℤ}
 use lib.ListN.{length, take}
+use Rattle.std.specs.Prelude.{Ok, Err}
 use Rattle.layout.specs.Tables.{Tables}
 use Rattle.layout.specs.Answers.{Answer, accepted, most, prefix_read, whole_read}
 use Rattle.layout.specs.Messages.ApiVersions as Api
 use Rattle.layout.proofs.Calls.{local_reply}
 use Rattle.layout.proofs.Demand3.{at_most_one, era}
+use Rattle.primitives.specs.Answers.{Read}
 use Rattle.api_versions_response.specs.Answers.{accepting, of_response_reply}
-use Rattle.api_versions_response.specs.declared.ResponseReply.{ResponseReply}
+use Rattle.api_versions_response.specs.declared.ResponseBody.{ResponseBody}
 use Rattle.api_versions_response.proofs.Unique.{Told, response_unique, said}
 
 -- a reply, and the tables behind it, that `read_whole` may give where it is lent the tables of items and tags; what `read_answer` promises is the same
@@ -38,21 +40,21 @@ one_layout msg v w lent lent' x y n k p q a b =
 
 -- of whole reads at 0, 1 and 3, one for each layout, at most one accepts
 module _ (msg : List ℕ) (l₀ l₁ l₃ t₀ t₁ t₃ : List ℕ × List ℕ) where
-  apart : (v w : ℤ) → era v ≢ era w → (lent lent' behind behind' : List ℕ × List ℕ) (r q : ResponseReply) → WholeRead msg v lent (r, behind) → WholeRead msg w lent' (q, behind') → accepting r + accepting q ≤ 1
-  apart v w d lent lent' behind behind' (ResponseReply.Took b n) (ResponseReply.Took c k) p q =
-      absurd (d (one_layout msg v w lent lent' (ResponseReply.Took b n, behind) (ResponseReply.Took c k, behind') n k p q (_, refl) (_, refl)))
-  apart v w d lent lent' behind behind' (ResponseReply.Took b n) (ResponseReply.Refused e) p q = omega arith
-  apart v w d lent lent' behind behind' (ResponseReply.Refused e) (ResponseReply.Took c k) p q = omega arith
-  apart v w d lent lent' behind behind' (ResponseReply.Refused e) (ResponseReply.Refused c) p q = omega arith
+  apart : (v w : ℤ) → era v ≢ era w → (lent lent' behind behind' : List ℕ × List ℕ) (r q : Read ResponseBody) → WholeRead msg v lent (r, behind) → WholeRead msg w lent' (q, behind') → accepting r + accepting q ≤ 1
+  apart v w d lent lent' behind behind' (Ok b) (Ok c) p q =
+      absurd (d (one_layout msg v w lent lent' (Ok b, behind) (Ok c, behind') b.next c.next p q (_, refl) (_, refl)))
+  apart v w d lent lent' behind behind' (Ok b) (Err e) p q = omega arith
+  apart v w d lent lent' behind behind' (Err e) (Ok c) p q = omega arith
+  apart v w d lent lent' behind behind' (Err e) (Err c) p q = omega arith
 
-  one_accepts : (a b c : ResponseReply) → WholeRead msg (pos 0) l₀ (a, t₀) → WholeRead msg (pos 1) l₁ (b, t₁) → WholeRead msg (pos 3) l₃ (c, t₃) → accepting a + accepting b + accepting c ≤ 1
+  one_accepts : (a b c : Read ResponseBody) → WholeRead msg (pos 0) l₀ (a, t₀) → WholeRead msg (pos 1) l₁ (b, t₁) → WholeRead msg (pos 3) l₃ (c, t₃) → accepting a + accepting b + accepting c ≤ 1
   one_accepts a b c p q r =
       let x = apart (pos 0) (pos 1) (λ e. let z : ◌≡◌ {A = ℕ} 0 1 = cc in omega arith) l₀ l₁ t₀ t₁ a b p q in
       let y = apart (pos 0) (pos 3) (λ e. let z : ◌≡◌ {A = ℕ} 0 1 = cc in omega arith) l₀ l₃ t₀ t₃ a c p r in
       let z = apart (pos 1) (pos 3) (λ e. let z : ◌≡◌ {A = ℕ} 0 1 = cc in omega arith) l₁ l₃ t₁ t₃ b c q r in
       omega arith
 
-  pub counted_once : (a b c : ResponseReply) (x y z : ℕ) → x ≡ accepting a → y ≡ accepting b → z ≡ accepting c → WholeRead msg (pos 0) l₀ (a, t₀) → WholeRead msg (pos 1) l₁ (b, t₁) → WholeRead msg (pos 3) l₃ (c, t₃) → x + y + z ≤ 1
+  pub counted_once : (a b c : Read ResponseBody) (x y z : ℕ) → x ≡ accepting a → y ≡ accepting b → z ≡ accepting c → WholeRead msg (pos 0) l₀ (a, t₀) → WholeRead msg (pos 1) l₁ (b, t₁) → WholeRead msg (pos 3) l₃ (c, t₃) → x + y + z ≤ 1
   counted_once a b c x y z e f g p q r = omega (arith, e, f, g, one_accepts a b c p q r)
 
 -- ---- with other bytes behind the used ones the reply and the tables are the same

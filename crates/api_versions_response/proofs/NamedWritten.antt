@@ -23,11 +23,10 @@ use Rattle.primitives.specs.Answers.{version_of}
 use Rattle.primitives.proofs.Versions.{known}
 use Rattle.names.specs.Walks.{many_begun}
 use Rattle.body_reading.specs.Cells.{given, versioned_cells}
-use Rattle.body_reading.specs.declared.versioned.Versioned.{Versioned}
+use Rattle.std.specs.Prelude.{Err, None, Ok, Option, Some}
 use Rattle.body_reading.specs.Tagged.{tags_shape}
-use Rattle.body_writing.specs.Blames.{Cause, blame_at, items_blame, of_blamed, row_blame, rows_blame}
+use Rattle.body_writing.specs.Blames.{Blamed, Cause, blame_at, items_blame, of_blamed, row_blame, rows_blame}
 use Rattle.body_writing.specs.Writes.{refusal_of}
-use Rattle.body_writing.specs.declared.blames.Blamed.{Blamed}
 use Rattle.body_writing.proofs.Blaming.{array_blame, else_same, fields_of, joined_blame}
 use Rattle.body_writing.proofs.Counts.{Cells, cells_drop, few_told}
 use Rattle.body_writing.proofs.NamedFaults.{cause_good, no_field}
@@ -184,17 +183,17 @@ module _ (x : Refusal) (some : x.number ≢ 0) where
     by_parts h c o d = go o ∙ ap (blamed 2 x) d ∙ sym (untagged_parts h)
       where
         go : (o : Blamed) → blamed 2 x (of_blamed [] o) ≡ blamed 2 x (of_blamed c o)
-        go (Blamed.Found row f) = refl
-        go Blamed.Past = refl
+        go (Err a) = refl
+        go (Ok u) = refl
 
 -- the name that the call gives of its own row, where n is the throttle time, 0 if unset
 module _ (lent : List ℕ) (error c own : ℕ) (items tags : List ℕ) (s : length items < 2 ^ 64) (g : Cells tags) (v : ℕ) (k : v ≤ 3) (x : Refusal) where
-  whole_parts : x.number ≢ 0 → count c ≡ length items / 4 → fieldless x.number ≡ false → (q : Versioned) → name_fault 2 (response_shape (leb 1 v) (leb 3 v)) none_yet (meant lent ((error ∷ c ∷ (versioned_cells q ++ (own ∷ []))) ∷ items ∷ tags ∷ []) (response_shape (leb 1 v) (leb 3 v))) x ≡ blamed 2 x (response_blame x.number (leb 1 v) error (given 0 q) items none_yet)
+  whole_parts : x.number ≢ 0 → count c ≡ length items / 4 → fieldless x.number ≡ false → (q : Option ℕ) → name_fault 2 (response_shape (leb 1 v) (leb 3 v)) none_yet (meant lent ((error ∷ c ∷ (versioned_cells q ++ (own ∷ []))) ∷ items ∷ tags ∷ []) (response_shape (leb 1 v) (leb 3 v))) x ≡ blamed 2 x (response_blame x.number (leb 1 v) error (given 0 q) items none_yet)
   unfolding chosen
-  whole_parts some rows h Versioned.Absent = name_parts x some lent (leb 1 v) (leb 3 v) error c 0 0 own items tags rows g h
-  whole_parts some rows h (Versioned.Present n) = name_parts x some lent (leb 1 v) (leb 3 v) error c 2 n own items tags rows g h
+  whole_parts some rows h None = name_parts x some lent (leb 1 v) (leb 3 v) error c 0 0 own items tags rows g h
+  whole_parts some rows h (Some n) = name_parts x some lent (leb 1 v) (leb 3 v) error c 2 n own items tags rows g h
 
-  pub response_named : (q : Versioned) (z : ℤ) → v ≡ version_of z → {n : ℕ} → n ≡ given 0 q → Cause x.number (refusal_of lent 2 (response_shape false false) (response_shape (leb 1 v) (leb 3 v)) ((error ∷ c ∷ 2 ∷ n ∷ own ∷ []) ∷ items ∷ tags ∷ [])) → (r : Refusal) →
+  pub response_named : (q : Option ℕ) (z : ℤ) → v ≡ version_of z → {n : ℕ} → n ≡ given 0 q → Cause x.number (refusal_of lent 2 (response_shape false false) (response_shape (leb 1 v) (leb 3 v)) ((error ∷ c ∷ 2 ∷ n ∷ own ∷ []) ∷ items ∷ tags ∷ [])) → (r : Refusal) →
       r ≡ name_fault 2 (response_shape (leb 1 v) false) none_yet (meant [] ((error ∷ length items / 4 ∷ 2 ∷ n ∷ 0 ∷ []) ∷ items ∷ [] ∷ []) (response_shape (leb 1 v) false)) x → r ≡ named_fault response z lent ((error ∷ c ∷ (versioned_cells q ++ (own ∷ []))) ∷ items ∷ tags ∷ []) x
   unfolding named_fault
   response_named q z i {n} j t r w =

@@ -6,20 +6,21 @@ use mathlib.Core.Path.{◌∙◌, ◌≡◌, ap, refl, subst, sym}
 use Prim.Native.Nat.{◌/◌, ◌<◌, ◌≤◌, ℕ}
 use native.Mathlib.Omega.{arith}
 use lib.Dec.{leb, ltb}
-use lib.IntN.{pos, ℤ}
+use lib.IntN.{pos}
 use lib.ListN.{length}
 use borrow.Author.Tests.{ltb-false}
+use Rattle.std.specs.Prelude.{Result, Ok, Err}
 use Rattle.layout.specs.Reading.{Refusal, Res, because, no_room, ok}
 use Rattle.layout.specs.Rows.{Shape, at, standing, stands, tag_rows}
-use Rattle.layout.specs.Tables.{Tables, all, arrays, from, kind_in, kind_of, row_width, width}
+use Rattle.layout.specs.Tables.{all, arrays, from, kind_in, kind_of, row_width, width}
 use Rattle.layout.specs.Answers.{Answer, accepted, read_answer, refused, shape, widths}
 use Rattle.layout.specs.Messages.ApiVersions as Api
 use Rattle.layout.proofs.Local.{not_ok}
 use Rattle.layout.proofs.Proper.{api_response}
 use Rattle.layout.proofs.Tests.{le-false, le-true, of_lt}
-use Rattle.primitives.specs.Answers.{of_refusal, version_of}
+use Rattle.primitives.specs.Answers.{of_refusal}
 use Rattle.primitives.specs.declared.Refusal as Code
-use Rattle.primitives.proofs.Versions.{known, up_to}
+use Rattle.primitives.proofs.Versions.{up_to}
 use Rattle.body_reading.specs.Meter.{short}
 use Rattle.body_reading.specs.Store.{State, own, tab}
 use Rattle.body_reading.specs.Tagged.{tags_if}
@@ -27,7 +28,7 @@ use Rattle.body_reading.specs.Walk.{on, walk}
 use Rattle.body_reading.proofs.Bound.{lean, slim, taken}
 use Rattle.body_reading.proofs.Close.{slices}
 use Rattle.layout.proofs.Chunks.{nil}
-use Rattle.body_reading.proofs.Reply.{answers_fits, answers_left, answers_long, answers_needs, answers_no}
+use Rattle.body_reading.proofs.Reply.{answers_fits, answers_left, answers_needs, answers_no}
 use Rattle.api_versions_response.specs.Answers.{of_response}
 use Rattle.api_versions_response.specs.ItemShapes.{key_shape}
 use Rattle.api_versions_response.specs.Shapes.{body_shape, response_shape, tail_shape}
@@ -100,16 +101,28 @@ module _ (w : Bool) (v : ℕ) (known : v ≤ 3) (s is ts : List ℕ) (size : len
   abbrev Reply : Answer → List ℕ → List ℕ → Type 0
   Reply a js us = (a, js ∷ us ∷ []) ≡ read_answer w Api.response (pos v) (is ∷ ts ∷ []) s
 
-  module _ (js₀ js us₀ us : List ℕ) (r : Measured) (first : of_measured js us r ≡ walked js₀ us₀) (no_items : length js ≡ 0) (no_tags : length us ≡ 0) where
+  module _ (js₀ js us₀ us : List ℕ) (r : Result Measured Code.Refusal) (first : of_measured js us r ≡ walked js₀ us₀) (no_items : length js ≡ 0) (no_tags : length us ≡ 0) where
     -- over no room nothing is altered
     kept : (a : Answer) → Reply a is ts → Reply a (js ++ is) (us ++ ts)
     kept a e = (λ i. (a, (nil js no_items i ++ is) ∷ (nil us no_tags i ++ ts) ∷ [])) ∙ e
 
-    pub reply_no : (c : Code.Refusal) → r ≡ Measured.Refused c → Reply (refused (of_refusal c)) (js ++ is) (us ++ ts)
+    pub reply_no : (c : Code.Refusal) → r ≡ Err c → Reply (refused (of_refusal c)) (js ++ is) (us ++ ts)
     reply_no c e =
         kept _ (answers_no Api.response api_response is_slim w v known s size (is ∷ ts ∷ []) (js₀ ∷ us₀ ∷ []) refl refl (of_refusal c) (ap (of_measured js us) (sym e) ∙ first ∙ as_shape js₀ us₀))
 
-    module _ (x : ResponseBody) (q i t : ℕ) (e : r ≡ Measured.Took x q i t) where
+    module _ (y : Measured) (e : r ≡ Ok y) where
+      abbrev x : ResponseBody
+      x = y.body
+
+      abbrev q : ℕ
+      q = y.next
+
+      abbrev i : ℕ
+      i = y.items
+
+      abbrev t : ℕ
+      t = y.tags
+
       measured : ok (own (of_response x) ∷ tab js i ∷ tab us t ∷ []) q ≡ on (walk w (shape Api.response v) 0 (own [] ∷ tab js₀ 0 ∷ tab us₀ 0 ∷ [])) s 0
       measured = ap (of_measured js us) (sym e) ∙ first ∙ as_shape js₀ us₀
 
@@ -137,24 +150,12 @@ module _ (w : Bool) (v : ℕ) (known : v ≤ 3) (s is ts : List ℕ) (size : len
           pub reply_tags : length (us ++ ts) / 3 < t / 3 → (c : Refusal) → c ≡ no_room (t / 3) → Reply (refused c) (js ++ is) (us ++ ts)
           reply_tags k c d = lacks_room (t / 3) (short_tags i t (length is) (length ts) items_fit (subst (λ (n : ℕ). n / 3 < t / 3) (long us ts no_tags) k)) c d
 
-          pub reply_took : t / 3 ≤ length (us ++ ts) / 3 → (js₂ us₂ : List ℕ) (r₂ : Measured) → of_measured js₂ us₂ r₂ ≡ walked (js ++ is) (us ++ ts) → Reply (accepted (of_response x) q) js₂ us₂
+          pub reply_took : t / 3 ≤ length (us ++ ts) / 3 → (js₂ us₂ : List ℕ) (r₂ : Result Measured Code.Refusal) → of_measured js₂ us₂ r₂ ≡ walked (js ++ is) (us ++ ts) → Reply (accepted (of_response x) q) js₂ us₂
           reply_took k js₂ us₂ r₂ d =
               answers_fits Api.response api_response is_slim w v known s size (is ∷ ts ∷ []) (js₀ ∷ us₀ ∷ []) refl refl (of_response x) (tab js i ∷ tab us t ∷ []) q measured (none_left w q (length s) l)
               (short_none i t (length is) (length ts) items_fit (subst (λ (n : ℕ). t / 3 ≤ n / 3) (long us ts no_tags) k)) (of_measured js₂ us₂ r₂)
               (d ∙ (λ j. walked (nil js no_items j ++ is) (nil us no_tags j ++ ts)) ∙ as_shape is ts) (js₂ ∷ us₂ ∷ []) (λ y n j. holds r₂ y n j)
             where
-              holds : (r₂ : Measured) (y : State) (n : ℕ) → of_measured js₂ us₂ r₂ ≡ ok y n → slices y ≡ js₂ ∷ us₂ ∷ []
-              holds (Measured.Took b u j m) y n g = let z : own (of_response b) ∷ tab js₂ j ∷ tab us₂ m ∷ [] ≡ y = cc in ap slices (sym z)
-              holds (Measured.Refused c) y n g = not_ok g
-
--- ---- the version, and the size
-
-module _ (w : Bool) (z : ℤ) (v : ℕ) (e : v ≡ version_of z) (h : v ≤ 3) (s : List ℕ) (olds : Tables) where
-  at_version_lem : pos v ≡ z
-  at_version_lem = known Api.response z v e h (omega arith)
-
-  pub reply_long : 1048576 < length s → (c : Refusal) → c ≡ because 2 0 → (refused c, olds) ≡ read_answer w Api.response z olds s
-  reply_long l c d = answers_long Api.response w v s olds c d h l ∙ ap (λ (y : ℤ). read_answer w Api.response y olds s) at_version_lem
-
-  pub reply_at : (o : Answer × Tables) → o ≡ read_answer w Api.response (pos v) olds s → o ≡ read_answer w Api.response z olds s
-  reply_at o d = d ∙ ap (λ (y : ℤ). read_answer w Api.response y olds s) at_version_lem
+              holds : (r₂ : Result Measured Code.Refusal) (y : State) (n : ℕ) → of_measured js₂ us₂ r₂ ≡ ok y n → slices y ≡ js₂ ∷ us₂ ∷ []
+              holds (Ok b) y n g = let z : own (of_response b.body) ∷ tab js₂ b.items ∷ tab us₂ b.tags ∷ [] ≡ y = cc in ap slices (sym z)
+              holds (Err c) y n g = not_ok g

@@ -12,13 +12,12 @@ use Rattle.layout.specs.Rows.{array, field, items, number}
 use Rattle.layout.specs.Names.{seek}
 use Rattle.layout.specs.Read.{read_basic}
 use Rattle.layout.proofs.Tests.{le-false, le-true}
-use Rattle.primitives.specs.declared.Number.{Number}
+use Rattle.std.specs.Prelude.{Some}
 use Rattle.body_reading.specs.Tagged.{tag_shape, tags_if}
 use Rattle.body_reading.specs.Walk.{on}
 use Rattle.body_reading.proofs.Chains.{give_took}
 use Rattle.body_reading.proofs.FrontAt.{byte_at}
 use Rattle.names.specs.Walks.{count_up_to, element, numbers}
-use Rattle.names.specs.declared.fields.Counted.{Counted}
 use Rattle.names.proofs.Divided.{number_past}
 use Rattle.names.proofs.Ends.{count_goes}
 use Rattle.names.proofs.Ways.{array_last, tag_count, tags_there}
@@ -26,7 +25,6 @@ use Rattle.api_versions_response.specs.ItemShapes.{key_shape}
 use Rattle.api_versions_response.specs.ItemWalks.{IsBare}
 use Rattle.api_versions_response.specs.Seek.{Passes}
 use Rattle.api_versions_response.specs.Shapes.{body_shape, tail_shape}
-use Rattle.api_versions_response.proofs.BareRows.{never}
 
 -- ---- an item
 
@@ -52,8 +50,8 @@ no_tags : (q row f : ℕ) (c s : List ℕ) (t p : ℕ) → p < length s → p < 
 unfolding loop
 no_tags q row f c s t p h g e =
     tags_there q row f c s p true t refl _
-    (array_last q row f c s p plain t tag_shape (Counted.After 0 (p + 1))
-    (count_goes q (Number.Took 0 (p + 1)) 0 (p + 1) refl (omega arith) ∙ ap (count_up_to q) (tag_count s p (ok 0 (p + 1)) (byte_at s p 0 e h (omega arith)))) 0 (p + 1) refl _ (give_took c s (p + 1)))
+    (array_last q row f c s p plain t tag_shape (Some (record { value = 0; next = p + 1 }))
+    (count_goes q 0 (p + 1) (omega arith) ∙ ap (count_up_to q) (tag_count s p (ok 0 (p + 1)) (byte_at s p 0 e h (omega arith)))) _ refl _ (give_took c s (p + 1)))
 
 module _ (q : ℕ) (s : List ℕ) (p : ℕ) where
   seven_bytes : p + 6 < length s → p + 6 < q → get_or s (p + 6) 0 ≡ 0 → (row : ℕ) (c : List ℕ) → ok c (p + 7) ≡ on (seek q (key_shape true) row 0 c) s p
@@ -68,9 +66,6 @@ module _ (q : ℕ) (s : List ℕ) (p : ℕ) where
 
   pub passes : (r : Bool) → p + 6 < q → IsBare true s p r → Passes q s p r
   passes r g d = record { whole = λ e. (let h = d.whole e in omega arith); law = λ e. seven_bytes (d.whole e) g (d.empty e) }
-
-  pub passes_none : Passes q s p false
-  passes_none = record { whole = λ e. never e; law = λ e. never e }
 
 -- ---- the body: a throttle time from version 1 on, tagged fields in 3
 

@@ -31,7 +31,7 @@ use Rattle.body_writing.specs.Asked.{told}
 use Rattle.body_writing.proofs.Counts.{Cells, cells_drop, few_told}
 use Rattle.tagged_fields.proofs.Tags.{tags_bytes, tags_clean}
 use Rattle.body_reading.specs.Cells.{given, versioned_cells}
-use Rattle.body_reading.specs.declared.versioned.Versioned.{Versioned}
+use Rattle.std.specs.Prelude.{Option, Some, None}
 use Rattle.body_writing.proofs.Called.{called}
 use Rattle.body_writing.proofs.Even.{numbers_fault}
 use Rattle.api_versions_response.proofs.Replies.{shape_is}
@@ -269,18 +269,18 @@ module _ (lent : List ℕ) (error c own : ℕ) (items tags out : List ℕ) (l : 
   abbrev refusal : List ℕ → ℕ
   refusal cs = refusal_of lent 2 (response_shape false false) (response_shape (leb 1 v) (leb 3 v)) (rows cs)
 
-  same_refusal : (q : Versioned) → refusal (versioned_cells q) ≡ refusal (2 ∷ given 0 q ∷ [])
+  same_refusal : (q : Option ℕ) → refusal (versioned_cells q) ≡ refusal (2 ∷ given 0 q ∷ [])
   unfolding chosen
-  same_refusal Versioned.Absent = refusal_is lent (leb 1 v) (leb 3 v) c 0 0 own items tags error l h i ∙ sym (refusal_is lent (leb 1 v) (leb 3 v) c 2 0 own items tags error l h i)
-  same_refusal (Versioned.Present n) = refl
+  same_refusal None = refusal_is lent (leb 1 v) (leb 3 v) c 0 0 own items tags error l h i ∙ sym (refusal_is lent (leb 1 v) (leb 3 v) c 2 0 own items tags error l h i)
+  same_refusal (Some n) = refl
 
-  same_throttle : (t : Bool) (q : Versioned) → row_bytes [] (throttle_shape t end) (versioned_cells q) ≡ row_bytes [] (throttle_shape t end) (2 ∷ given 0 q ∷ [])
+  same_throttle : (t : Bool) (q : Option ℕ) → row_bytes [] (throttle_shape t end) (versioned_cells q) ≡ row_bytes [] (throttle_shape t end) (2 ∷ given 0 q ∷ [])
   unfolding row_bytes bytes_at write value_of pop width basic_of chosen
-  same_throttle true Versioned.Absent = refl
-  same_throttle false Versioned.Absent = refl
-  same_throttle t (Versioned.Present n) = refl
+  same_throttle true None = refl
+  same_throttle false None = refl
+  same_throttle t (Some n) = refl
 
-  same_bytes : (t f : Bool) → judged (length lent) c own items tags ≡ true → (q : Versioned) → bytes_at lent (response_shape t f) 0 (rows (versioned_cells q)) ≡ bytes_at lent (response_shape t f) 0 ((error ∷ length items / 4 ∷ 2 ∷ given 0 q ∷ own ∷ []) ∷ items ∷ tags ∷ [])
+  same_bytes : (t f : Bool) → judged (length lent) c own items tags ≡ true → (q : Option ℕ) → bytes_at lent (response_shape t f) 0 (rows (versioned_cells q)) ≡ bytes_at lent (response_shape t f) 0 ((error ∷ length items / 4 ∷ 2 ∷ given 0 q ∷ own ∷ []) ∷ items ∷ tags ∷ [])
   same_bytes t f g q = go q
     where
       x : count c ≡ length items / 4
@@ -298,17 +298,17 @@ module _ (lent : List ℕ) (error c own : ℕ) (items tags out : List ℕ) (l : 
           ∙ ap (λ (w : List ℕ). bytes 2 error ++ w) (rest_bytes lent t f c k m own items tags x y ∙ ap (λ (w : List ℕ). (length_bytes (Rows.items f) (length items / 4) ++ items_bytes lent (item_shape f) (length items / 4) 1 ([] ∷ items ∷ tags ∷ [])) ++ (w ++ cond f (counted_bytes lent tag_shape plain 3 (drop ((length tags / 3 - count own) * 3) tags)) [])) z)
           ∙ sym (set n)
 
-      go : (q : Versioned) → bytes_at lent (response_shape t f) 0 (rows (versioned_cells q)) ≡ bytes_at lent (response_shape t f) 0 ((error ∷ length items / 4 ∷ 2 ∷ given 0 q ∷ own ∷ []) ∷ items ∷ tags ∷ [])
-      go Versioned.Absent = told_so 0 0 0 (same_throttle t Versioned.Absent)
-      go (Versioned.Present n) = told_so 2 n n refl
+      go : (q : Option ℕ) → bytes_at lent (response_shape t f) 0 (rows (versioned_cells q)) ≡ bytes_at lent (response_shape t f) 0 ((error ∷ length items / 4 ∷ 2 ∷ given 0 q ∷ own ∷ []) ∷ items ∷ tags ∷ [])
+      go None = told_so 0 0 0 (same_throttle t None)
+      go (Some n) = told_so 2 n n refl
 
-  pub response_written : (q : Versioned) (z : ℤ) → v ≡ version_of z → {n : ℕ} → n ≡ given 0 q → (r : Answer × List ℕ) →
+  pub response_written : (q : Option ℕ) (z : ℤ) → v ≡ version_of z → {n : ℕ} → n ≡ given 0 q → (r : Answer × List ℕ) →
       r ≡ write_alone (refusal (2 ∷ n ∷ [])) (bytes_at lent (response_shape (leb 1 v) (leb 3 v)) 0 ((error ∷ length items / 4 ∷ 2 ∷ n ∷ own ∷ []) ∷ items ∷ tags ∷ [])) out → r ≡ write_answer response z lent (rows (versioned_cells q)) out
   response_written q z e j r w =
       called response z v e k (omega arith) lent (rows (versioned_cells q)) out r _ _ w
       (rw (shape_is v k, shape_is 0 (lit≤ tt)) (same_refusal q ∙ ap (λ (n : ℕ). refusal (2 ∷ n ∷ [])) (sym j)))
       (rw (shape_is v k, shape_is 0 (lit≤ tt)) (λ g. same_bytes (leb 1 v) (leb 3 v) (rows_good q g) q ∙ ap (λ (n : ℕ). bytes_at lent (response_shape (leb 1 v) (leb 3 v)) 0 ((error ∷ length items / 4 ∷ 2 ∷ n ∷ own ∷ []) ∷ items ∷ tags ∷ [])) (sym j)))
     where
-      rows_good : (q : Versioned) → good (length lent) 2 (response_shape false false) (rows (versioned_cells q)) ≡ true → judged (length lent) c own items tags ≡ true
-      rows_good Versioned.Absent g = sym (is_good (length lent) c own items tags error 0 0 ∙ sym (is_good (length lent) c own items tags 0 0 0)) ∙ g
-      rows_good (Versioned.Present n) g = sym (is_good (length lent) c own items tags error 2 n ∙ sym (is_good (length lent) c own items tags 0 0 0)) ∙ g
+      rows_good : (q : Option ℕ) → good (length lent) 2 (response_shape false false) (rows (versioned_cells q)) ≡ true → judged (length lent) c own items tags ≡ true
+      rows_good None g = sym (is_good (length lent) c own items tags error 0 0 ∙ sym (is_good (length lent) c own items tags 0 0 0)) ∙ g
+      rows_good (Some n) g = sym (is_good (length lent) c own items tags error 2 n ∙ sym (is_good (length lent) c own items tags 0 0 0)) ∙ g

@@ -8,71 +8,48 @@ ghost use Rattle.api_versions_response.specs.ItemShapes.{key_front, key_shape};
 ghost use Rattle.api_versions_response.specs.ItemWalks.{Bare, IsBare, in_tables, of_key, rows_is};
 
 use body_reading::places::int16_at;
-use body_reading::tables::{less, skip4, store4};
-use primitives::{Number, Refusal};
-use tagged_fields::reading::{Walked, tags_if};
+use body_reading::tables::{less, skip4, store_row};
+use primitives::{Read, Refusal, Taken};
+use tagged_fields::reading::tags_if;
 
-// The numbers of an item, and the place behind them.
-#[derive(Drop)]
-pub enum Key {
-    Took {
-        key: u64,
-        min: u64,
-        max: u64,
-        next: usize,
-    },
-    Refused(Refusal),
+// The numbers of an item.
+#[derive(Clone, Copy)]
+pub struct Key {
+    pub key: u64,
+    pub min: u64,
+    pub max: u64,
 }
 
-// The place behind some items, and the marks of the tables.
-#[derive(Drop)]
-pub enum Rows {
-    Took {
-        next: usize,
-        items: usize,
-        tags: usize,
-    },
-    Refused(Refusal),
+// The place after some items, and the marks of the tables.
+#[derive(Clone, Copy)]
+pub struct Rows {
+    pub next: usize,
+    pub items: usize,
+    pub tags: usize,
 }
 
-fn key_at(s: &[u8], p: usize) -> Key
+fn key_at(s: &[u8], p: usize) -> Read<Key>
     ensures { of_key result ≡ on (read (by_place false) key_front) s.now p }
 {
-    match int16_at(s, p) {
-        Number::Took {
-            value: key,
-            used: q,
-        } => match int16_at(s, q) {
-            Number::Took {
-                value: min,
-                used: u,
-            } => match int16_at(s, u) {
-                Number::Took {
-                    value: max,
-                    used: next,
-                } => Key::Took {
-                    key,
-                    min,
-                    max,
-                    next,
-                },
-                Number::Refused(e) => Key::Refused(e),
-            },
-            Number::Refused(e) => Key::Refused(e),
+    let key = int16_at(s, p)?;
+    let min = int16_at(s, key.next)?;
+    let max = int16_at(s, min.next)?;
+    Ok(Taken {
+        value: Key {
+            key: key.value,
+            min: min.value,
+            max: max.value,
         },
-        Number::Refused(e) => Key::Refused(e),
-    }
+        next: max.next,
+    })
 }
 
 // Most items have no tags: their bytes are there, and the last is 0.
 pub(crate) fn is_bare(s: &[u8], p: usize, flexible: bool) -> bool
     ensures { IsBare flexible s.now p result }
 {
-    if flexible {
-        if p < less(s.len(), 6) {
-            let rest = &s[p..];
-            return rest[6] == 0;
-        }
+    if flexible && p < less(s.len(), 6) {
+        return s[p + 6] == 0;
     }
     false
 }
@@ -86,13 +63,14 @@ fn bare_in(s: &[u8], p: usize, items: &mut [u64], row: usize) -> usize
         return skip4(row);
     }
     match key_at(&s[p..p + 6], 0) {
-        Key::Took {
-            key,
-            min,
-            max,
-            next: _,
-        } => store4(items, row, key, min, max, 0),
-        Key::Refused(_) => row,
+        Ok(
+            Taken {
+                value: Key { key, min, max },
+                ..
+            },
+        ) => { store_row(items, row, [key, min, max, 0]) }
+        // Never: the bytes of three numbers are there.
+        Err(_) => row,
     }
 }
 
@@ -105,37 +83,26 @@ fn item_at(
     row: usize,
     tags: &mut [u64],
     tag: usize,
-) -> Rows
+) -> Result<Rows, Refusal>
     ensures { Runs (λ e. walk e.0 (key_shape flexible) 1) s.now p (in_tables items.old row tags.old tag) (rows_is items.new tags.new result) }
 {
     if is_bare(s, p, flexible) {
-        return Rows::Took {
+        return Ok(Rows {
             next: p + 7,
             items: bare_in(s, p, items, row),
             tags: tag,
-        };
+        });
     }
-    match key_at(s, p) {
-        Key::Took {
-            key,
-            min,
-            max,
-            next,
-        } => {
-            match tags_if(s, next, flexible, tags, tag) {
-                Walked::Took { count, used, mark } => {
-                    let below = store4(items, row, key, min, max, count);
-                    Rows::Took {
-                        next: used,
-                        items: below,
-                        tags: mark,
-                    }
-                }
-                Walked::Refused(e) => Rows::Refused(e),
-            }
-        }
-        Key::Refused(e) => Rows::Refused(e),
-    }
+    let Taken {
+        value: Key { key, min, max },
+        next,
+    } = key_at(s, p)?;
+    let own = tags_if(s, next, flexible, tags, tag)?;
+    Ok(Rows {
+        next: own.next,
+        items: store_row(items, row, [key, min, max, own.count]),
+        tags: own.mark,
+    })
 }
 
 // `count` items from place p on, from the start of the tables on.
@@ -146,31 +113,16 @@ pub(crate) fn items_in(
     count: u64,
     items: &mut [u64],
     tags: &mut [u64],
-) -> Rows
+) -> Result<Rows, Refusal>
     ensures { Runs (λ e. loop count (walk e.0 (key_shape flexible) 1)) s.now p (in_tables items.old 0 tags.old 0) (rows_is items.new tags.new result) }
 {
-    let mut next = p;
-    let mut row: usize = 0;
-    let mut tag: usize = 0;
-    let mut left = count;
-    while 0 < left {
-        left = left - 1;
-        match item_at(s, next, flexible, items, row, tags, tag) {
-            Rows::Took {
-                next: q,
-                items: below,
-                tags: last,
-            } => {
-                next = q;
-                row = below;
-                tag = last;
-            }
-            Rows::Refused(e) => return Rows::Refused(e),
-        }
+    let mut rows = Rows {
+        next: p,
+        items: 0,
+        tags: 0,
+    };
+    for _done in 0..count {
+        rows = item_at(s, rows.next, flexible, items, rows.items, tags, rows.tags)?;
     }
-    Rows::Took {
-        next,
-        items: row,
-        tags: tag,
-    }
+    Ok(rows)
 }

@@ -23,10 +23,7 @@ fn is_good(size: usize, count: u64, own: u64, items: &[u64], tags: &[u64]) -> bo
     if rows < k {
         return false;
     }
-    if !do_items_tell(items, rows - k) {
-        return false;
-    }
-    all_ranged(size, tags, Row::Tag)
+    do_items_tell(items, rows - k) && all_ranged(size, tags, Row::Tag)
 }
 
 // ---- 11
@@ -34,13 +31,7 @@ fn is_good(size: usize, count: u64, own: u64, items: &[u64], tags: &[u64]) -> bo
 fn row_fits(key: u64, low: u64, high: u64) -> bool
     ensures { result ≡ eqb (row_fault [] key_front (key ∷ low ∷ high ∷ [])) 0 }
 {
-    if !fits(key, 32768) {
-        return false;
-    }
-    if !fits(low, 32768) {
-        return false;
-    }
-    fits(high, 32768)
+    fits(key, 32768) && fits(low, 32768) && fits(high, 32768)
 }
 
 // The same of row i.
@@ -56,8 +47,7 @@ fn all_fit(items: &[u64]) -> bool
     ensures { result ≡ eqb (rows_fault [] key_front 4 items.now) 0 }
 {
     let n = items.len() / 4;
-    let mut turn: usize = 0;
-    while turn < n / 2 {
+    for turn in 0..n / 2 {
         let a = fits_at(items, turn * 2);
         let b = fits_at(items, turn * 2 + 1);
         if !a {
@@ -66,10 +56,10 @@ fn all_fit(items: &[u64]) -> bool
         if !b {
             return false;
         }
-        turn = turn + 1;
     }
-    if turn * 2 < n {
-        return fits_at(items, turn * 2);
+    let last = n / 2 * 2;
+    if last < n {
+        return fits_at(items, last);
     }
     true
 }
@@ -77,26 +67,17 @@ fn all_fit(items: &[u64]) -> bool
 fn throttle_fits(throttle: bool, n: u64) -> bool
     ensures { result ≡ cond throttle (holds w32 n) true }
 {
-    if throttle {
-        return fits(n, 2147483648);
-    }
-    true
+    !throttle || fits(n, 2147483648)
 }
 
 // Tags have no fault: the layout without them says all.
 fn is_carried(throttle: bool, error: u64, n: u64, items: &[u64]) -> bool
     ensures { result ≡ eqb (fault_at [] (response_shape throttle false) 0 ((error ∷ length items.now / 4 ∷ 2 ∷ n ∷ 0 ∷ []) ∷ items.now ∷ [] ∷ [])) 0 }
 {
-    if !fits(error, 32768) {
-        return false;
-    }
-    if !throttle_fits(throttle, n) {
-        return false;
-    }
-    all_fit(items)
+    fits(error, 32768) && throttle_fits(throttle, n) && all_fit(items)
 }
 
-// 13, 11, or 0 for neither.
+// 13, 11, or 0 for neither. A number and no Option: its promise is the definition's number, which has 0 for none.
 pub(crate) fn refusal(
     throttle: bool,
     size: usize,

@@ -2,9 +2,6 @@
 // Numbers are cells, as in the tables: 64 bits, two's complement.
 #![tactic(auto)]
 
-use body_reading::versioned::Versioned;
-use primitives::Refusal;
-
 mod items;
 mod judge;
 mod naming;
@@ -16,17 +13,10 @@ pub use reading::{read, read_answer, read_whole};
 pub use writing::write;
 
 // The own row of a response: error, number of items, throttle time (from version 1 on, and a writer may leave it unset), and number of its own tags, the cell of -1 where they are unset or absent.
-#[derive(Drop)]
+#[derive(Clone, Copy)]
 pub struct ResponseBody {
     pub error: u64,
     pub items: u64,
-    pub throttle: Versioned,
+    pub throttle: Option<u64>,
     pub tags: u64,
-}
-
-// The own row of a response and the bytes used.
-#[derive(Drop)]
-pub enum ResponseReply {
-    Took { body: ResponseBody, used: usize },
-    Refused(Refusal),
 }

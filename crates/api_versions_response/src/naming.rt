@@ -11,13 +11,11 @@ ghost use Rattle.api_versions_response.specs.Seek.{Passes};
 ghost use Rattle.api_versions_response.specs.Shapes.{body_shape, tail_shape};
 
 use crate::items::is_bare;
-use body_reading::places::Taken;
-use body_reading::tables::less;
-use names::fields::{Counted, Passed, count, int16, int32};
+use names::fields::{count, int16, int32};
 use names::runs::Element;
 use names::tags::tags_if;
 use names::{
-    API_VERSIONS_RESPONSE, Named, Sought, begin, is_fieldless, named_by, runs, without_field,
+    API_VERSIONS_RESPONSE, Found, Named, Sought, is_fieldless, named_by, rows, runs, without_field,
 };
 use primitives::{MINUS_ONE, Refusal};
 
@@ -31,10 +29,7 @@ const TAGS: usize = 2;
 fn is_passed(s: &[u8], p: usize, q: usize) -> bool
     ensures { Passes q s.now p result }
 {
-    if p < less(q, 6) {
-        return is_bare(s, p, true);
-    }
-    false
+    p < q.saturating_sub(6) && is_bare(s, p, true)
 }
 
 // The item at p of version 3, row `row` of its table.
@@ -42,37 +37,12 @@ fn item(s: &[u8], p: usize, q: usize, row: u64, begun: &mut [u64]) -> Sought
     ensures { of_sought begun.new result ≡ on (seek q (key_shape true) row 0 begun.old) s.now p }
 {
     if is_passed(s, p, q) {
-        return Sought::Past(p + 7);
+        return Ok(p + 7);
     }
-    let p = match int16(s, p, q) {
-        Passed::After(next) => next,
-        Passed::Stopped => return Sought::Found { row, field: 0 },
-    };
-    let p = match int16(s, p, q) {
-        Passed::After(next) => next,
-        Passed::Stopped => return Sought::Found { row, field: 1 },
-    };
-    let p = match int16(s, p, q) {
-        Passed::After(next) => next,
-        Passed::Stopped => return Sought::Found { row, field: 2 },
-    };
+    let p = int16(s, p, q).ok_or(Found { row, field: 0 })?;
+    let p = int16(s, p, q).ok_or(Found { row, field: 1 })?;
+    let p = int16(s, p, q).ok_or(Found { row, field: 2 })?;
     tags_if(s, p, q, true, TAGS, row, 3, begun)
-}
-
-fn tagged_items(s: &[u8], p: usize, q: usize, count: u64, begun: &mut [u64]) -> Sought
-    ensures { of_sought begun.new result ≡ on (loop count (element q (key_shape true) 1) begun.old) s.now p }
-{
-    let mut next = p;
-    let mut left = count;
-    while 0 < left {
-        left = left - 1;
-        let row = begin(begun, ITEMS);
-        match item(s, next, q, row, begun) {
-            Sought::Past(n) => next = n,
-            Sought::Found { row: r, field: f } => return Sought::Found { row: r, field: f },
-        }
-    }
-    Sought::Past(next)
 }
 
 // Items without tags are three numbers each.
@@ -80,7 +50,9 @@ fn items(s: &[u8], p: usize, q: usize, flexible: bool, count: u64, begun: &mut [
     ensures { of_sought begun.new result ≡ on (loop count (element q (key_shape flexible) 1) begun.old) s.now p }
 {
     if flexible {
-        return tagged_items(s, p, q, count, begun);
+        return rows(p, ITEMS, count, begun, |p, row, begun| {
+            item(s, p, q, row, begun)
+        });
     }
     runs::elements(s, p, q, ITEMS, count, Element::Int16Triple, begun)
 }
@@ -92,13 +64,10 @@ fn tail(s: &[u8], p: usize, q: usize, v: u64, begun: &mut [u64]) -> Sought
     ensures { of_sought begun.new result ≡ on (seek q (tail_shape (leb 1 v) (leb 3 v)) nowhere 2 begun.old) s.now p }
 {
     if v < 1 {
-        return Sought::Past(p);
+        return Ok(p);
     }
     let row = MINUS_ONE;
-    let p = match int32(s, p, q) {
-        Passed::After(next) => next,
-        Passed::Stopped => return Sought::Found { row, field: 2 },
-    };
+    let p = int32(s, p, q).ok_or(Found { row, field: 2 })?;
     tags_if(s, p, q, 3 <= v, TAGS, row, 3, begun)
 }
 
@@ -106,18 +75,10 @@ fn body(s: &[u8], q: usize, v: u64, begun: &mut [u64]) -> Sought
     ensures { of_sought begun.new result ≡ on (seek q (body_shape (leb 1 v) (leb 3 v)) nowhere 0 begun.old) s.now 0 }
 {
     let row = MINUS_ONE;
-    let p = match int16(s, 0, q) {
-        Passed::After(next) => next,
-        Passed::Stopped => return Sought::Found { row, field: 0 },
-    };
-    let all = match count(s, p, q, 3 <= v) {
-        Counted::After { count, next } => Taken { value: count, next },
-        Counted::Stopped => return Sought::Found { row, field: 1 },
-    };
-    match items(s, all.next, q, 3 <= v, all.value, begun) {
-        Sought::Past(next) => tail(s, next, q, v, begun),
-        Sought::Found { row: r, field: f } => Sought::Found { row: r, field: f },
-    }
+    let p = int16(s, 0, q).ok_or(Found { row, field: 0 })?;
+    let all = count(s, p, q, 3 <= v).ok_or(Found { row, field: 1 })?;
+    let p = items(s, all.next, q, 3 <= v, all.value, begun)?;
+    tail(s, p, q, v, begun)
 }
 
 // The refusal e of a response at version v, which there is, with its name.

@@ -14,7 +14,7 @@ ghost use Rattle.api_versions_response.specs.Shapes.{response_shape, throttle_sh
 
 use body_writing::blames::{Blamed, blamed_by};
 use body_writing::ranges::number_fault;
-use names::{API_VERSIONS_RESPONSE, Named, begin, is_fieldless, without_field};
+use names::{API_VERSIONS_RESPONSE, Found, Named, begin, is_fieldless, without_field};
 use primitives::{MINUS_ONE, Refusal};
 
 const ITEMS: usize = 1;
@@ -25,31 +25,26 @@ fn item(e: u8, items: &[u64], i: usize, row: u64) -> Blamed
     ensures { of_blamed [] result ≡ row_blame [] e key_front row 0 [] (get_or (rows_of 4 items.now) i []) }
 {
     if number_fault(items[i * 4], 32768) == e {
-        return Blamed::Found { row, field: 0 };
+        return Err(Found { row, field: 0 });
     }
     if number_fault(items[i * 4 + 1], 32768) == e {
-        return Blamed::Found { row, field: 1 };
+        return Err(Found { row, field: 1 });
     }
     if number_fault(items[i * 4 + 2], 32768) == e {
-        return Blamed::Found { row, field: 2 };
+        return Err(Found { row, field: 2 });
     }
-    Blamed::Past
+    Ok(())
 }
 
 // The same of all rows.
 fn all_items(e: u8, items: &[u64], begun: &mut [u64]) -> Blamed
     ensures { of_blamed begun.new result ≡ rows_blame [] e key_front 4 1 items.now begun.old }
 {
-    let n = items.len() / 4;
-    let mut i: usize = 0;
-    while i < n {
+    for i in 0..items.len() / 4 {
         let row = begin(begun, ITEMS);
-        match item(e, items, i, row) {
-            Blamed::Past => i = i + 1,
-            Blamed::Found { row: r, field: f } => return Blamed::Found { row: r, field: f },
-        }
+        item(e, items, i, row)?;
     }
-    Blamed::Past
+    Ok(())
 }
 
 // The throttle time, where the version has one.
@@ -57,15 +52,15 @@ fn throttle_time(e: u8, throttle: bool, n: u64) -> Blamed
     ensures { of_blamed [] result ≡ row_blame [] e (throttle_shape throttle end) nowhere 2 [] (2 ∷ n ∷ []) }
 {
     if !throttle {
-        return Blamed::Past;
+        return Ok(());
     }
     if number_fault(n, 2147483648) == e {
-        return Blamed::Found {
+        return Err(Found {
             row: MINUS_ONE,
             field: 2,
-        };
+        });
     }
-    Blamed::Past
+    Ok(())
 }
 
 // Error, items and throttle time, in field order.
@@ -73,15 +68,13 @@ fn body(e: u8, throttle: bool, error: u64, n: u64, items: &[u64], begun: &mut [u
     ensures { of_blamed begun.new result ≡ response_blame e throttle error n items.now begun.old }
 {
     if number_fault(error, 32768) == e {
-        return Blamed::Found {
+        return Err(Found {
             row: MINUS_ONE,
             field: 0,
-        };
+        });
     }
-    match all_items(e, items, begun) {
-        Blamed::Past => throttle_time(e, throttle, n),
-        Blamed::Found { row, field } => Blamed::Found { row, field },
-    }
+    all_items(e, items, begun)?;
+    throttle_time(e, throttle, n)
 }
 
 // The refusal e with its name; n is the throttle time, 0 where it is unset.

@@ -19,7 +19,6 @@ ghost use Rattle.api_versions_response.specs.ItemShapes.{key_front};
 
 use crate::ResponseBody;
 use crate::judge::refusal;
-use body_reading::cells::given;
 use body_writing::ranges::rows_told;
 use primitives::{MOST, NO_VERSION, TOO_LONG, at, no_room, version_of};
 use primitives_put::{Form, Written};
@@ -78,7 +77,7 @@ fn item(out: &mut [u8], flexible: bool, lent: &[u8], items: &[u64], tags: &[u64]
     primitives_put::add(a, b)
 }
 
-// Item behind item.
+// Item after item. A turn takes a row of one table and some rows of the other, so the slices that are left say it more plainly than an index.
 fn all_items(out: &mut [u8], flexible: bool, lent: &[u8], items: &[u64], tags: &[u64]) -> usize
     requires { sum (told 3) (rows_of 4 items.now) * 3 ≤ length tags.now }
     ensures { Capped (items_bytes lent.now (item_shape flexible) (length items.now / 4) 1 ([] ∷ items.now ∷ tags.now ∷ [])) out.old result out.new }
@@ -119,7 +118,8 @@ fn untagged_item(out: &mut [u8], flexible: bool, items: &[u64], i: usize) -> usi
     primitives_put::add(a, b)
 }
 
-// Item behind item, in an output of just their size: the loop's own test tells the room of each.
+// Item after item, in an output of just their size: the loop's own test tells the room of each.
+// Not over `chunks_exact_mut`: a proof does not know what is in the chunks afterwards.
 fn untagged_rows(out: &mut [u8], flexible: bool, width: usize, items: &[u64]) -> usize
     requires { (width ≡ cond flexible 7 6) × (length out.old ≡ length items.now / 4 * width) }
     ensures { Capped (each (λ x. row_bytes [] (item_shape flexible) (take 3 x)) (rows_of 4 items.now)) out.old result out.new }
@@ -177,7 +177,7 @@ fn form_of(flexible: bool) -> Form
     Form::Int32
 }
 
-// The items behind their number.
+// The items after their number.
 fn array(out: &mut [u8], flexible: bool, lent: &[u8], items: &[u64], tags: &[u64]) -> usize
     requires { sum (told 3) (rows_of 4 items.now) * 3 ≤ length tags.now }
     ensures { Capped (bytes_at lent.now (Rows.array (Rows.items flexible) 1 (item_shape flexible) Rows.end) 0 ((length items.now / 4 ∷ []) ∷ items.now ∷ tags.now ∷ [])) out.old result out.new }
@@ -197,7 +197,7 @@ fn throttle_time(out: &mut [u8], throttle: bool, n: u64) -> usize
     0
 }
 
-// What stands behind the items.
+// What stands after the items.
 fn end(out: &mut [u8], throttle: bool, flexible: bool, lent: &[u8], n: u64, table: &[u64]) -> usize
     ensures { Capped (bytes_at lent.now (throttle_shape throttle (tags_shape flexible 2)) 0 ((2 ∷ n ∷ length table.now / 3 ∷ []) ∷ [] ∷ table.now ∷ [])) out.old result out.new }
 {
@@ -207,7 +207,7 @@ fn end(out: &mut [u8], throttle: bool, flexible: bool, lent: &[u8], n: u64, tabl
     primitives_put::add(a, b)
 }
 
-// What stands behind the error.
+// What stands after the error.
 fn rest(
     out: &mut [u8],
     throttle: bool,
@@ -267,7 +267,7 @@ fn written(
 {
     let e = refusal(throttle, lent.len(), items, tags, error, count, n, own);
     if e != 0 {
-        return Written::Refused(at(e, 0));
+        return Err(at(e, 0));
     }
     let all = body(
         &mut out[..0],
@@ -281,13 +281,13 @@ fn written(
         tags,
     );
     if MOST < all {
-        return Written::Refused(at(TOO_LONG, 0));
+        return Err(at(TOO_LONG, 0));
     }
     if out.len() < all {
-        return Written::Refused(no_room(all));
+        return Err(no_room(all));
     }
     body(out, throttle, flexible, lent, error, n, own, items, tags);
-    Written::Wrote(all)
+    Ok(all)
 }
 
 // `items` are rows of key, lowest and highest version and number of tags; `tags` rows of tag, and start and length of its data in `lent`.
@@ -303,11 +303,10 @@ pub fn write(
 {
     let v = version_of(version);
     if 3 < v {
-        return Written::Refused(at(NO_VERSION, 0));
+        return Err(at(NO_VERSION, 0));
     }
-    let throttle = body.throttle;
     // unset, it is written as 0
-    let n = given(throttle, 0);
+    let n = body.throttle.unwrap_or(0);
     written(
         out,
         1 <= v,

@@ -1,4 +1,5 @@
 -- A field that the version may lack, read alone: each way out, for every kind of field and then for those that code reads.
+use mir.Val.{bool_byte}
 use mathlib.Core.Bool.{Bool, cond, false, true}
 use mathlib.Core.List.{List, [], ◌∷◌}
 use mathlib.Core.Option.{Option, none, some}
@@ -12,12 +13,13 @@ use Rattle.layout.specs.Rows.{Basic, BasicValue, boolean, end, number, optional,
 use Rattle.layout.specs.Tables.{Span, absent_cells, cells, span, width}
 use Rattle.primitives.specs.Parts.{of_field, of_nullable, there}
 use Rattle.primitives.specs.declared.Field.{Field}
-use Rattle.primitives.specs.declared.Nullable.{Nullable}
+use Rattle.std.specs.Option.{unwrap_or}
+use Rattle.std.specs.Prelude.{Ok, Err, Some, None, Option as Maybe}
+use Rattle.primitives.specs.Answers.{Read}
 use Rattle.primitives.specs.Answers.{of_number, of_refusal}
-use Rattle.primitives.specs.declared.Number.{Number}
 use Rattle.body_reading.specs.Walk.{on, row_from}
 use Rattle.body_reading.proofs.RowCells.{cells_absent, cells_end, cells_no, cells_took}
-use Rattle.body_reading.specs.Cells.{field_cells, of_cell, of_text}
+use Rattle.body_reading.specs.Cells.{given, field_cells, of_cell, of_text}
 
 module _ (b : Bool) (k : Basic) (s : List ℕ) (p : ℕ) where
   abbrev asked : Bool → Res (List ℕ)
@@ -56,10 +58,10 @@ module _ (b : Bool) (s : List ℕ) (p : ℕ) where
   unfolding absent_cells
   int64_lacks e = lacks b (number w64) s p e
 
-  pub int64_there : b ≡ true → (r : Number) → of_number r ≡ on (cell w64) s p → of_cell r ≡ on (row_from [] (stands b (number w64) end)) s p
+  pub int64_there : b ≡ true → (r : Read ℕ) → of_number r ≡ on (cell w64) s p → of_cell r ≡ on (row_from [] (stands b (number w64) end)) s p
   unfolding read_basic cells
-  int64_there e (Number.Took n q) d = has_took b (number w64) s p e n q d
-  int64_there e (Number.Refused c) d = has_no b (number w64) s p e (of_refusal c) d
+  int64_there e (Ok t) d = has_took b (number w64) s p e t.value t.next d
+  int64_there e (Err c) d = has_no b (number w64) s p e (of_refusal c) d
 
   -- ---- a Boolean
 
@@ -90,22 +92,32 @@ module _ (b : Bool) (s : List ℕ) (p : ℕ) where
   there_cells Field.Absent x e = absurd (let z : ◌≡◌ {A = ℕ} 0 1 = cc in omega arith)
   there_cells Field.Null none e = refl
   there_cells Field.Null (some y) e = absurd (let z : ◌≡◌ {A = ℕ} 0 1 = cc in omega arith)
-  there_cells (Field.Present a n) none e = absurd (let z : ◌≡◌ {A = ℕ} 0 1 = cc in omega arith)
-  there_cells (Field.Present a n) (some y) e =
-      let g : a ≡ y.0 = cc in
-      let h : n ≡ y.1 = cc in
+  there_cells (Field.Present v) none e = absurd (let z : ◌≡◌ {A = ℕ} 0 1 = cc in omega arith)
+  there_cells (Field.Present v) (some y) e =
+      let g : v.start ≡ y.0 = cc in
+      let h : v.len ≡ y.1 = cc in
       λ i. 2 ∷ g i ∷ h i ∷ []
 
-  pub text_there : b ≡ true → (r : Nullable) → of_nullable r ≡ there (on (read_basic (by_place false) kind) s p) → of_text r ≡ on (row_from [] (stands b kind end)) s p
+  pub text_there : b ≡ true → (r : Read Field) → of_nullable r ≡ there (on (read_basic (by_place false) kind) s p) → of_text r ≡ on (row_from [] (stands b kind end)) s p
   text_there e r d = go r (on (read_basic (by_place false) kind) s p) refl d
     where
-      go : (r : Nullable) (o : Res (Option Span)) → on (read_basic (by_place false) kind) s p ≡ o → of_nullable r ≡ there o → of_text r ≡ on (row_from [] (stands b kind end)) s p
-      go (Nullable.Took f n) (ok x q) g d =
-          let h : of_field f ≡ some x = cc in
-          let m : n ≡ q = cc in
-          (λ i. ok (there_cells f x h i) (m i)) ∙ has_took b kind s p e x q (sym g)
-      go (Nullable.Took f n) (bad c) g d = absurd (let z : ◌≡◌ {A = ℕ} 0 1 = cc in omega arith)
-      go (Nullable.Refused c) (ok x q) g d = absurd (let z : ◌≡◌ {A = ℕ} 0 1 = cc in omega arith)
-      go (Nullable.Refused c) (bad a) g d =
+      go : (r : Read Field) (o : Res (Option Span)) → on (read_basic (by_place false) kind) s p ≡ o → of_nullable r ≡ there o → of_text r ≡ on (row_from [] (stands b kind end)) s p
+      go (Ok t) (ok x q) g d =
+          let h : of_field t.value ≡ some x = cc in
+          let m : t.next ≡ q = cc in
+          (λ i. ok (there_cells t.value x h i) (m i)) ∙ has_took b kind s p e x q (sym g)
+      go (Ok t) (bad c) g d = absurd (let z : ◌≡◌ {A = ℕ} 0 1 = cc in omega arith)
+      go (Err c) (ok x q) g d = absurd (let z : ◌≡◌ {A = ℕ} 0 1 = cc in omega arith)
+      go (Err c) (bad a) g d =
           let h : of_refusal c ≡ a = cc in
           ap bad h ∙ has_no b kind s p e a (sym g)
+
+-- a number, or what is taken where there is none
+pub given_is : (x : Maybe ℕ) (d : ℕ) → unwrap_or x d ≡ given d x
+given_is None d = refl
+given_is (Some n) d = refl
+
+-- a Boolean as a number
+pub bit_is : (b : Bool) → bool_byte b ≡ cond b 1 0
+bit_is true = refl
+bit_is false = refl

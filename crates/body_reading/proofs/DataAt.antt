@@ -16,7 +16,8 @@ use Rattle.layout.specs.Rows.{Basic, blob, items, nullable_items, text}
 use Rattle.primitives.specs.Answers.{of_refusal}
 use Rattle.primitives.specs.declared.Refusal as Code
 use Rattle.primitives.specs.Parts.{counted, data_behind, of_count, there}
-use Rattle.primitives.specs.declared.Count.{Count}
+use Rattle.std.specs.Prelude.{Some, None, Err, Option as Maybe}
+use Rattle.primitives.specs.Answers.{Read, taken}
 use Rattle.layout.specs.Read.{by_place, read_basic, read_blob}
 use Rattle.layout.specs.Tables.{Span}
 use Rattle.body_reading.specs.Walk.{item_count, on}
@@ -59,18 +60,18 @@ pub fixed_count : (f : Bool) (s : List ℕ) (z : Res ℕ) → z ≡ counted (fix
 unfolding array_count
 fixed_count f s z e h = e ∙ ap (λ (b : Bool). counted (nullable_items b) 0 s) (sym h)
 
-module _ (w : Bool) (c : Count) where
-  pub some_items : (k n : ℕ) → c ≡ Count.Took k n → ok k n ≡ items_of w (of_count c)
+module _ (w : Bool) (c : Read (Maybe ℕ)) where
+  pub some_items : (k n : ℕ) → c ≡ taken (Some k) n → ok k n ≡ items_of w (of_count c)
   some_items k n e = rw e (rw (add-one k))
 
-  pub no_items : (n : ℕ) → c ≡ Count.Null n → w ≡ false → ok 0 n ≡ items_of w (of_count c)
+  pub no_items : (n : ℕ) → c ≡ taken None n → w ≡ false → ok 0 n ≡ items_of w (of_count c)
   no_items n e h = λ i. items_of (sym h i) (of_count (sym e i))
 
-  pub null_items : (n : ℕ) → c ≡ Count.Null n → w ≡ true → (e : Refusal) → e ≡ because 8 0 → bad e ≡ items_of w (of_count c)
+  pub null_items : (n : ℕ) → c ≡ taken None n → w ≡ true → (e : Refusal) → e ≡ because 8 0 → bad e ≡ items_of w (of_count c)
   null_items n e h r d = ap bad d ∙ (λ i. items_of (sym h i) (of_count (sym e i)))
 
-  pub items_refused : (r : Code.Refusal) → c ≡ Count.Refused r → bad (of_refusal r) ≡ items_of w (of_count c)
-  items_refused r e = ap (λ (n : Count). items_of w (of_count n)) (sym e)
+  pub items_refused : (r : Code.Refusal) → c ≡ Err r → bad (of_refusal r) ≡ items_of w (of_count c)
+  items_refused r e = ap (λ (n : Read (Maybe ℕ)). items_of w (of_count n)) (sym e)
 
 -- what is inside the rest is inside the message
 in_message_lem : (s left : List ℕ) (p : ℕ) → left ≡ drop p s → (a k m : ℕ) → a + k ≤ length left → p < m → length s < m → p + a < m

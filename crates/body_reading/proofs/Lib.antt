@@ -8,6 +8,8 @@ pub mod Alone
 pub mod Unique
 -- readers one after the other, a field as a step of a walk, a loop over items, and a row read as its cells
 pub mod Chains
+-- loops over items that count up, and refusals that are handed up
+pub mod Turns
 pub mod RowCells
 -- stores one after the other, and how many cells a body lays
 pub mod Stores

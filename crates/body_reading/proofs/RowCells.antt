@@ -2,7 +2,7 @@
 use mathlib.Core.Bool.{Bool, false}
 use mathlib.Core.List.{List, [], ◌++◌, ◌∷◌, append_assoc, append-nil}
 use mathlib.Core.Path.{◌∙◌, ◌≡◌, ap, refl, sym}
-use Prim.Native.Nat.{◌+◌, ℕ}
+use Prim.Native.Nat.{ℕ}
 use lib.ListN.{drop}
 use Rattle.layout.specs.Reading.{Refusal, Res, bad, more, ok, then}
 use Rattle.layout.specs.Rows.{Basic, BasicValue, Shape, Value, absent, array, end, field, lacking, stands}

@@ -3,10 +3,11 @@ use mathlib.Core.Bool.{Bool, cond, false, true}
 use mathlib.Core.List.{List, [], ◌++◌, ◌∷◌}
 use mathlib.Core.Path.{◌∙◌, ◌≡◌, ap, refl, sym}
 use Prim.Native.Nat.{◌+◌, ◌<◌, ◌≤◌, suc, zero, ℕ}
+use native.Mathlib.Nat.{add-zero}
 use native.Mathlib.Omega.{arith}
 use lib.Dec.{ltb}
-use lib.ListN.{length, length-set, set}
-use lib.Seq.{set_out}
+use lib.ListN.{get_or, length, set, take}
+use lib.Seq.{set_out, take-suc}
 use borrow.Author.Tests.{le-ltb, lt-ltb}
 use Rattle.body_reading.specs.Store.{State, Tab, add, limit, put, step, store, tab}
 
@@ -60,24 +61,8 @@ store_skip : (l : List ℕ) (k c : ℕ) (cs : List ℕ) → length l ≤ k → s
 unfolding store put
 store_skip l k c cs h = ap (λ m. store (tab m (step k)) cs) (set_out l k c h)
 
--- a row of four cells, stored at once where there is room for all, and passed over where there is room for none
+-- a row of four cells, passed over where there is room for none
 module _ (l : List ℕ) (k a b c d : ℕ) where
-  -- a store takes no room away
-  pub four_room : k + 3 < length l → (k + 1 < length (set l k a)) × (k + 2 < length (set (set l k a) (k + 1) b)) × (k + 3 < length (set (set (set l k a) (k + 1) b) (k + 2) c))
-  four_room h =
-      let e = length-set l k a in
-      let f = length-set (set l k a) (k + 1) b in
-      let g = length-set (set (set l k a) (k + 1) b) (k + 2) c in
-      (omega arith, omega arith, omega arith)
-
-  pub four_in : k + 3 < limit → tab (set (set (set (set l k a) (k + 1) b) (k + 2) c) (k + 3) d) (k + 4) ≡ store (tab l k) (a ∷ b ∷ c ∷ d ∷ [])
-  unfolding store put
-  four_in h =
-      let e : k + 1 ≡ step k = step_up k (omega arith) in
-      let f : k + 2 ≡ step (step k) = next_mark (k + 1) (k + 2) _ (omega arith) (omega arith) e in
-      let g : k + 3 ≡ step (step (step k)) = next_mark (k + 2) (k + 3) _ (omega arith) (omega arith) f in
-      (λ t. tab (set (set (set (set l k a) (e t) b) (f t) c) (g t) d) (step_4 k h t))
-
   pub four_out : (n : ℕ) → n ≡ step (step (step (step k))) → length l ≤ k → tab l n ≡ store (tab l k) (a ∷ b ∷ c ∷ d ∷ [])
   unfolding store
   four_out n e h =
@@ -91,3 +76,27 @@ store_both x y z cs ds e g = g ∙ ap (λ t. store t ds) e ∙ store_append x cs
 
 pub store_next : (x y z : Tab) (c : ℕ) (cs : List ℕ) → y ≡ store x (c ∷ []) → z ≡ store y cs → z ≡ store x (c ∷ cs)
 store_next x y z c cs e g = store_both x y z (c ∷ []) cs e g
+
+-- with room the cell is set, and the mark moves on
+pub store_set : (l : List ℕ) (k c : ℕ) → k < limit → tab (set l k c) (k + 1) ≡ store (tab l k) (c ∷ [])
+store_set l k c h = store_in l k c (k + 1) (step_up k h)
+
+-- the first i cells of a row are stored, and the next one is
+module _ (x : Tab) (cs : List ℕ) (i : ℕ) (h : i < length cs) where
+  pub store_more : (y z : Tab) → y ≡ store x (take i cs) → z ≡ store y (get_or cs i 0 ∷ []) → z ≡ store x (take (i + 1) cs)
+  store_more y z e g =
+      let n : suc i ≡ i + 1 = omega arith in
+      store_both x y z (take i cs) (get_or cs i 0 ∷ []) e g ∙ ap (store x) (sym (take-suc cs i 0 h) ∙ ap (λ (k : ℕ). take k cs) n)
+
+  -- from mark m on, with room
+  pub store_on : (l : List ℕ) (m : ℕ) → m + i < limit → tab l (m + i) ≡ store x (take i cs) → tab (set l (m + i) (get_or cs i 0)) (m + (i + 1)) ≡ store x (take (i + 1) cs)
+  store_on l m k e = let n : m + (i + 1) ≡ m + i + 1 = omega arith in store_more (tab l (m + i)) _ e (ap (tab (set l (m + i) (get_or cs i 0))) n ∙ store_set l (m + i) (get_or cs i 0) k)
+
+-- no cell
+pub store_none : (l : List ℕ) (k : ℕ) → tab l (k + 0) ≡ store (tab l k) []
+unfolding store
+store_none l k = ap (tab l) (add-zero k)
+
+pub store_nothing : (l : List ℕ) (k : ℕ) → tab l k ≡ store (tab l k) []
+unfolding store
+store_nothing l k = refl

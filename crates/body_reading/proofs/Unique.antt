@@ -4,16 +4,16 @@ use mathlib.Core.Path.{◌≡◌, refl}
 use Prim.Native.Nat.{suc, zero, ℕ}
 use Rattle.primitives.specs.declared.Field.{Field}
 use Rattle.body_reading.specs.Cells.{versioned_row}
-use Rattle.body_reading.specs.declared.versioned.Versioned.{Versioned}
+use Rattle.std.specs.Prelude.{Option, Some, None}
 
-abbrev pub versioned_of : ℕ → ℕ → Versioned
-versioned_of zero n = Versioned.Absent
-versioned_of (suc k) n = Versioned.Present n
+abbrev pub versioned_of : ℕ → ℕ → Option ℕ
+versioned_of zero n = None
+versioned_of (suc k) n = Some n
 
 abbrev pub field_of : ℕ → ℕ → ℕ → Field
 field_of zero a k = Field.Absent
 field_of (suc zero) a k = Field.Null
-field_of (suc (suc n)) a k = Field.Present a k
+field_of (suc (suc n)) a k = Field.Present (record { start = a; len = k })
 
 -- cells that are lent: any kind but 0 is present
 pub present_row : (k n : ℕ) → (k ≡ 0 → ⊥) → 2 ∷ n ∷ [] ≡ versioned_row k n

@@ -2,37 +2,33 @@
 ghost use Rattle.std.specs.Prelude.{◌≡◌, get_or};
 ghost use Rattle.body_reading.specs.Cells.{field_cells, given, versioned_cells, versioned_row};
 
-use crate::versioned::Versioned;
-use primitives::Field;
+use primitives::{Field, Span};
 
 // 0 where it is absent or unset, 2 where it is there.
-pub fn kind(x: Versioned) -> u64
+pub fn kind(x: Option<u64>) -> u64
     ensures { result ≡ get_or (versioned_cells x) 0 0 }
 {
     match x {
-        Versioned::Absent => 0,
-        Versioned::Present(_) => 2,
+        None => 0,
+        Some(_) => 2,
     }
 }
 
 // The number, or d where there is none.
-pub fn given(x: Versioned, d: u64) -> u64
+pub fn given(x: Option<u64>, d: u64) -> u64
     ensures { result ≡ given d x }
 {
-    match x {
-        Versioned::Absent => d,
-        Versioned::Present(n) => n,
-    }
+    x.unwrap_or(d)
 }
 
 // Kind 0 is unset, any other present.
-pub fn of_row(kind: u64, n: u64) -> Versioned
+pub fn of_row(kind: u64, n: u64) -> Option<u64>
     ensures { versioned_cells result ≡ versioned_row kind n }
 {
     if kind == 0 {
-        return Versioned::Absent;
+        return None;
     }
-    Versioned::Present(n)
+    Some(n)
 }
 
 // Of a text that may be null: 0 where it is absent, 1 where it is null, 2 where it is there.
@@ -42,7 +38,7 @@ pub fn field_kind(f: Field) -> u64
     match f {
         Field::Absent => 0,
         Field::Null => 1,
-        Field::Present { start: _, len: _ } => 2,
+        Field::Present(_) => 2,
     }
 }
 
@@ -50,9 +46,8 @@ pub fn field_start(f: Field) -> u64
     ensures { result ≡ get_or (field_cells f) 1 0 }
 {
     match f {
-        Field::Absent => 0,
-        Field::Null => 0,
-        Field::Present { start, len: _ } => start as u64,
+        Field::Absent | Field::Null => 0,
+        Field::Present(Span { start, .. }) => start as u64,
     }
 }
 
@@ -60,8 +55,7 @@ pub fn field_length(f: Field) -> u64
     ensures { result ≡ get_or (field_cells f) 2 0 }
 {
     match f {
-        Field::Absent => 0,
-        Field::Null => 0,
-        Field::Present { start: _, len } => len as u64,
+        Field::Absent | Field::Null => 0,
+        Field::Present(Span { len, .. }) => len as u64,
     }
 }

@@ -7,117 +7,87 @@ ghost use Rattle.body_reading.specs.Cells.{of_cell, of_text, of_versioned_at};
 ghost use Rattle.body_reading.specs.Fronts.{front_of, of_front};
 
 use crate::places::{boolean_at, int32_at, int64_at, items_at, nullable_string_at};
-use primitives::{Field, Flag, Nullable, Number, Refusal};
+use primitives::{Field, MINUS_ONE, Read, Refusal, Taken};
 
-// The cell of -1: a Boolean or a number that the version lacks.
-const ABSENT: u64 = 18446744073709551615;
+// The cell of a Boolean or a number that the version lacks.
+const ABSENT: u64 = MINUS_ONE;
 
-// A number that a version may lack, or a writer leave unset.
+// The front of a body: its throttle time, which a version may lack, the number of items of the array after it, and the place where they start.
 #[derive(Clone, Copy)]
-pub enum Versioned {
-    Absent,
-    Present(u64),
+pub struct Front {
+    pub throttle: Option<u64>,
+    pub count: u64,
+    pub next: usize,
 }
 
-// The same where it was read, with the place behind it.
-#[derive(Drop)]
-pub enum VersionedAt {
-    Took { value: Versioned, next: usize },
-    Refused(Refusal),
-}
-
-// The front of a body: its throttle time, the number of items of the array behind it, and the place where they start.
-#[derive(Drop)]
-pub enum Front {
-    Took {
-        throttle: Versioned,
-        count: u64,
-        next: usize,
-    },
-    Refused(Refusal),
-}
-
-pub fn int32_if(s: &[u8], p: usize, there: bool) -> VersionedAt
+// `None` where the version lacks it.
+pub fn int32_if(s: &[u8], p: usize, there: bool) -> Read<Option<u64>>
     ensures { of_versioned_at result ≡ on (row_from [] (stands there (optional (0 ∷ []) (number w32)) end)) s.now p }
 {
     if !there {
-        return VersionedAt::Took {
-            value: Versioned::Absent,
+        return Ok(Taken {
+            value: None,
             next: p,
-        };
+        });
     }
-    match int32_at(s, p) {
-        Number::Took { value, used } => VersionedAt::Took {
-            value: Versioned::Present(value),
-            next: used,
-        },
-        Number::Refused(e) => VersionedAt::Refused(e),
-    }
+    let number = int32_at(s, p)?;
+    Ok(Taken {
+        value: Some(number.value),
+        next: number.next,
+    })
 }
 
 // As a cell: -1 where the version lacks it.
-pub fn int64_if(s: &[u8], p: usize, there: bool) -> Number
+pub fn int64_if(s: &[u8], p: usize, there: bool) -> Read<u64>
     ensures { of_cell result ≡ on (row_from [] (stands there (number w64) end)) s.now p }
 {
     if !there {
-        return Number::Took {
+        return Ok(Taken {
             value: ABSENT,
-            used: p,
-        };
+            next: p,
+        });
     }
     int64_at(s, p)
 }
 
 // As a cell: 0 or 1, and -1 where the version lacks it.
-pub fn boolean_if(s: &[u8], p: usize, there: bool) -> Number
+pub fn boolean_if(s: &[u8], p: usize, there: bool) -> Read<u64>
     ensures { of_cell result ≡ on (row_from [] (stands there boolean end)) s.now p }
 {
     if !there {
-        return Number::Took {
+        return Ok(Taken {
             value: ABSENT,
-            used: p,
-        };
+            next: p,
+        });
     }
-    match boolean_at(s, p) {
-        Flag::Took { value, used } => Number::Took {
-            value: if value { 1 } else { 0 },
-            used,
-        },
-        Flag::Refused(e) => Number::Refused(e),
-    }
+    let flag = boolean_at(s, p)?;
+    Ok(Taken {
+        value: flag.value as u64,
+        next: flag.next,
+    })
 }
 
-pub fn nullable_string_if(s: &[u8], p: usize, there: bool) -> Nullable
+pub fn nullable_string_if(s: &[u8], p: usize, there: bool) -> Read<Field>
     ensures { of_text result ≡ on (row_from [] (stands there (text (fixed w16 kept)) end)) s.now p }
 {
     if !there {
-        return Nullable::Took {
-            field: Field::Absent,
-            used: p,
-        };
+        return Ok(Taken {
+            value: Field::Absent,
+            next: p,
+        });
     }
     nullable_string_at(s, p)
 }
 
 // Where a body starts: perhaps a throttle time, and the number of items of an array.
-pub fn front_of(s: &[u8], there: bool) -> Front
+pub fn front_of(s: &[u8], there: bool) -> Result<Front, Refusal>
     ensures { of_front result ≡ on (front_of there) s.now 0 }
 {
-    match int32_if(s, 0, there) {
-        VersionedAt::Took {
-            value: throttle,
-            next: p,
-        } => match items_at(s, p, false, false) {
-            Number::Took {
-                value: count,
-                used: next,
-            } => Front::Took {
-                throttle,
-                count,
-                next,
-            },
-            Number::Refused(e) => Front::Refused(e),
-        },
-        VersionedAt::Refused(e) => Front::Refused(e),
-    }
+    let throttle = int32_if(s, 0, there)?;
+    let count = items_at(s, throttle.next, false, false)?;
+    Ok(Front {
+        throttle: throttle.value,
+        count: count.value,
+        next: count.next,
+    })
 }

@@ -22,9 +22,10 @@ use Rattle.layout.proofs.Tests.{by_test}
 use Rattle.primitives_put.specs.Answers.{within}
 use Rattle.primitives_put.proofs.Carried.{is_held}
 use Rattle.body_reading.proofs.Front.{Flat, onto}
-use Rattle.body_writing.specs.Blames.{blame_at, items_blame, of_blamed, row_blame, rows_blame}
+use Rattle.std.specs.Prelude.{Ok, Err}
+use Rattle.names.specs.declared.Found.{Found}
+use Rattle.body_writing.specs.Blames.{Blamed, blame_at, items_blame, of_blamed, row_blame, rows_blame}
 use Rattle.body_writing.specs.Writes.{fault_at, row_fault}
-use Rattle.body_writing.specs.declared.blames.Blamed.{Blamed}
 use Rattle.body_writing.proofs.Faults.{or_none}
 use Rattle.body_writing.proofs.Writes.{flat_items, flat_own, row_value, some_fault}
 
@@ -119,8 +120,8 @@ module _ (lent : List ℕ) (e : ℕ) where
   any_counts l h row f cells x g c = as_counted x ∙ ap (recount c) g ∙ sym (flat_counts l h row f c (row_value lent l cells))
     where
       as_counted : (x : Blamed) → of_blamed c x ≡ recount c (of_blamed [] x)
-      as_counted (Blamed.Found row f) = refl
-      as_counted Blamed.Past = refl
+      as_counted (Err a) = refl
+      as_counted (Ok u) = refl
 
   -- ---- a row in two parts, the first with no arrays
 
@@ -219,8 +220,8 @@ module _ (lent : List ℕ) (e : ℕ) where
 
         -- as a function of the row answers it
         module _ (flat : Flat l) (x : Blamed) (u : of_blamed [] x ≡ row_blame lent e l row 0 [] (get_or (rows_of w table) i [])) where
-          pub flat_found : (y f : ℕ) → x ≡ Blamed.Found y f → there y f ≡ rows_blame lent e l w t table k₀
-          flat_found y f p = searched_found y f (sym (ap (of_blamed k₁) p) ∙ any_counts l flat row 0 (get_or (rows_of w table) i []) x u k₁)
+          pub flat_found : (a : Found) → x ≡ Err a → there a.row a.field ≡ rows_blame lent e l w t table k₀
+          flat_found a p = searched_found a.row a.field (sym (ap (of_blamed k₁) p) ∙ any_counts l flat row 0 (get_or (rows_of w table) i []) x u k₁)
 
-          pub flat_more : x ≡ Blamed.Past → Searched (i + 1) k₁
-          flat_more p = searched_more (sym (ap (of_blamed k₁) p) ∙ any_counts l flat row 0 (get_or (rows_of w table) i []) x u k₁)
+          pub flat_more : (v : Unit {0}) → x ≡ Ok v → Searched (i + 1) k₁
+          flat_more v p = searched_more (sym (ap (of_blamed k₁) p) ∙ any_counts l flat row 0 (get_or (rows_of w table) i []) x u k₁)

@@ -13,9 +13,10 @@ use Rattle.layout.specs.Names.{Sought, begun, blame, blame_each, else, past, the
 use Rattle.layout.specs.Rows.{array, end}
 use Rattle.layout.specs.Tables.{Tables, chunks, count, rows_of, sum, times, value_of}
 use Rattle.layout.specs.Write.{too_long}
-use Rattle.body_writing.specs.Blames.{blame_at, items_blame, of_blamed, row_blame, rows_blame}
+use Rattle.std.specs.Prelude.{Ok, Err}
+use Rattle.names.specs.declared.Found.{Found}
+use Rattle.body_writing.specs.Blames.{Blamed, blame_at, items_blame, of_blamed, row_blame, rows_blame}
 use Rattle.body_writing.specs.Writes.{takes}
-use Rattle.body_writing.specs.declared.blames.Blamed.{Blamed}
 use Rattle.body_writing.proofs.Blaming.{array_blame, else_past, else_same, fields_of, flat_blame, items_blame_lem, joined_blame}
 use Rattle.body_writing.proofs.Nested.{Enough, Nest, count_cell_lem, enough_here, enough_more, enough_start, fields_left, nest, one, taken_rows, takes_first}
 
@@ -86,11 +87,11 @@ module _ (x : Nest) (lent : List ℕ) (e : ℕ) where
             onward : else (of_blamed k₂ y) (λ c. rest (drop (suc n) left) (drop (takes w n left) free) c) ≡ rest items others k₀
             onward = ap (λ (s : Sought). else s (λ c. rest (drop (suc n) left) (drop (takes w n left) free) c)) p ∙ split
 
-            pub searching_found : (a f : ℕ) → y ≡ Blamed.Found a f → there a f ≡ rest items others k₀
-            searching_found a f q = sym (ap (λ (z : Blamed). else (of_blamed k₂ z) (λ c. rest (drop (suc n) left) (drop (takes w n left) free) c)) q) ∙ onward
+            pub searching_found : (a : Found) → y ≡ Err a → there a.row a.field ≡ rest items others k₀
+            searching_found a q = sym (ap (λ (z : Blamed). else (of_blamed k₂ z) (λ c. rest (drop (suc n) left) (drop (takes w n left) free) c)) q) ∙ onward
 
-            pub searching_more : y ≡ Blamed.Past → (j : ℕ) → j ≡ takes w n left → Searching (take (length left - suc n) (drop (suc n) left)) (take (length free - j) (drop j free)) k₂
-            searching_more q j t =
+            pub searching_more : (u : Unit {0}) → y ≡ Ok u → (j : ℕ) → j ≡ takes w n left → Searching (take (length left - suc n) (drop (suc n) left)) (take (length free - j) (drop j free)) k₂
+            searching_more o q j t =
                 let u : take (length left - suc n) (drop (suc n) left) ≡ drop (suc n) left = take_all (length left - suc n) (drop (suc n) left) (omega (arith, length-drop (suc n) left)) in
                 let v : take (length free - j) (drop j free) ≡ drop (takes w n left) free = take_all (length free - j) (drop j free) (omega (arith, length-drop j free)) ∙ ap (λ (i : ℕ). drop i free) t in
                 record {

@@ -3,18 +3,16 @@ use mathlib.Core.List.{List, [], ◌∷◌}
 use mathlib.Core.Bool.{Bool, ◌&&◌, and-false, and-true, cond, false, true}
 use mathlib.Core.Logic.{◌≢◌}
 use mathlib.Core.Path.{◌∙◌, ◌≡◌, ap, refl, sym}
-use Prim.Native.Nat.{◌*◌, ◌+◌, ◌-◌, ◌/◌, ◌<◌, ◌^◌, ◌≤◌, suc, ℕ}
+use Prim.Native.Nat.{◌+◌, ◌-◌, ◌<◌, ◌^◌, ◌≤◌, ℕ}
 use native.Mathlib.Omega.{arith}
-use native.Mathlib.Numerals.{add-one}
-use lib.ListN.{drop, drop_of_length-le, get_or, length}
-use lib.Seq.{drop-cons, get_or-drop}
+use lib.ListN.{drop, get_or}
+use lib.Seq.{get_or-drop}
 use lib.Dec.{eqb, ltb}
 use borrow.Author.Tests.{eq-eqb, ne_eqb}
 use Rattle.layout.specs.Primitives.{minus}
-use Rattle.layout.specs.Tables.{all, count, good_count, rows_of, sum}
+use Rattle.layout.specs.Tables.{all, count, good_count, sum}
 use Rattle.body_writing.specs.Asked.{tells, told, told_good}
 use Rattle.layout.proofs.Tests.{lt-true, not_minus, of_eq, of-ne}
-use Rattle.layout.proofs.Chunks.{row_cell, rows_many}
 
 -- every cell is below 2^64
 abbrev pub Cells : List ℕ → Type 0
@@ -87,57 +85,24 @@ same_test a b c d f g = go (eqb a b) refl
 
 -- ---- row by row: those left decide, with what is left of n
 
-pub record Telling (b : Bool) (w at : ℕ) (table : List ℕ) (n left i : ℕ) : Type 0 where
-  pub below : i ≤ length table / w
-  pub same : tells b at left (drop i (rows_of w table)) ≡ tells b at n (rows_of w table)
+module _ (b : Bool) (at left : ℕ) (r : List ℕ) (rs : List (List ℕ)) (g : Bool) (d : g ≡ good_count b (get_or r at 0)) where
+  -- a cell that is no count
+  pub tells_bad : g ≡ false → false ≡ tells b at left (r ∷ rs)
+  unfolding tells told_good all
+  tells_bad f = sym (rw (sym d ∙ f))
 
-module _ (b : Bool) (w at : ℕ) (table : List ℕ) (n : ℕ) where
-  pub telling_start : Telling b w at table n n 0
-  telling_start = record { below = omega arith; same = refl }
+  module _ (k : ℕ) (q : k ≡ count (get_or r at 0)) where
+    pub tells_over : left < k → false ≡ tells b at left (r ∷ rs)
+    unfolding tells told sum
+    tells_over m = sym (rw (ne_eqb (count (get_or r at 0) + sum (told at) rs) left (λ e. omega (arith, q))) (and-false (all (told_good b at) (r ∷ rs))))
 
-  module _ {left i : ℕ} (a : Telling b w at table n left i) where
-    module _ (l : at < w) (h : i < length table / w) (c : ℕ) (e : c ≡ get_or table (i * w + at) 0) (g : Bool) (d : g ≡ good_count b c) where
-      is_cell : get_or (get_or (rows_of w table) i []) at 0 ≡ c
-      is_cell = row_cell w table i h at l ∙ sym e
+    pub tells_more : g ≡ true → k ≤ left → tells b at (left - k) rs ≡ tells b at left (r ∷ rs)
+    unfolding tells told told_good all sum
+    tells_more f m =
+        ap (λ (t : Bool). all (told_good b at) rs && t)
+        (same_test (sum (told at) rs) (left - k) (count (get_or r at 0) + sum (told at) rs) left (λ e. omega (arith, q)) (λ e. omega (arith, q)))
+        ∙ sym (rw (sym d ∙ f))
 
-      split : drop i (rows_of w table) ≡ get_or (rows_of w table) i [] ∷ drop (suc i) (rows_of w table)
-      split = drop-cons (rows_of w table) i [] (omega (arith, rows_many w table))
-
-      is_good : told_good b at (get_or (rows_of w table) i []) ≡ g
-      unfolding told_good
-      is_good = ap (good_count b) is_cell ∙ sym d
-
-      -- a cell that is no count
-      pub telling_bad : g ≡ false → false ≡ tells b at n (rows_of w table)
-      unfolding tells all
-      telling_bad f = sym (rw (split, is_good, f)) ∙ a.same
-
-      module _ (k : ℕ) (q : k ≡ count c) where
-        is_told : told at (get_or (rows_of w table) i []) ≡ k
-        unfolding told
-        is_told = ap count is_cell ∙ sym q
-
-        pub telling_stop : left < k → false ≡ tells b at n (rows_of w table)
-        unfolding tells all sum
-        telling_stop m =
-            sym (rw (split, ne_eqb (told at (get_or (rows_of w table) i []) + sum (told at) (drop (suc i) (rows_of w table))) left (λ d. omega (arith, is_told))) (and-false (all (told_good b at) (get_or (rows_of w table) i [] ∷ drop (suc i) (rows_of w table)))))
-            ∙ a.same
-
-        pub telling_more : g ≡ true → k ≤ left → Telling b w at table n (left - k) (i + 1)
-        unfolding tells all sum
-        telling_more f m = record {
-          below = omega arith;
-          same =
-              ap (λ (j : ℕ). tells b at (left - k) (drop j (rows_of w table))) (add-one i)
-              ∙ ap (λ (t : Bool). all (told_good b at) (drop (suc i) (rows_of w table)) && t)
-              (same_test (sum (told at) (drop (suc i) (rows_of w table))) (left - k) (told at (get_or (rows_of w table) i []) + sum (told at) (drop (suc i) (rows_of w table))) left (λ d. omega (arith, is_told)) (λ d. omega (arith, is_told)))
-              ∙ sym (rw (split, is_good, f))
-              ∙ a.same;
-        }
-
-    pub telling_end : length table / w ≤ i → eqb left 0 ≡ tells b at n (rows_of w table)
-    unfolding tells all sum
-    telling_end h =
-        same_test left 0 0 left (λ d. sym d) (λ d. sym d)
-        ∙ sym (rw (drop_of_length-le (rows_of w table) {i = i} (omega (arith, rows_many w table))))
-        ∙ a.same
+pub tells_end : (b : Bool) (at left : ℕ) → eqb left 0 ≡ tells b at left []
+unfolding tells all sum
+tells_end b at left = same_test left 0 0 left (λ e. sym e) (λ e. sym e)

@@ -58,6 +58,21 @@ module _ (p : List ℕ → Bool) (w : ℕ) (table : List ℕ) where
   unfolding all
   judged_end i a h = sym (ap (all p) (drop_of_length-le (rows_of w table) {i = i} (omega (arith, rows_many w table)))) ∙ a.same
 
+-- ---- one judged and the rest
+
+module _ {A : Type 0} (p : A → Bool) (x : A) (xs : List A) (b : Bool) (e : b ≡ p x) where
+  pub all_stop : b ≡ false → false ≡ all p (x ∷ xs)
+  unfolding all
+  all_stop h = sym (rw (sym e ∙ h))
+
+  pub all_more : b ≡ true → all p xs ≡ all p (x ∷ xs)
+  unfolding all
+  all_more h = sym (rw (sym e ∙ h))
+
+pub all_none : {A : Type 0} (p : A → Bool) → true ≡ all p []
+unfolding all
+all_none p = refl
+
 -- ---- two rows a turn: those before are good, and these decide
 
 module _ {p : List ℕ → Bool} {w : ℕ} {table : List ℕ} {t : ℕ} (g : Judged p w table (t * 2)) {a : Bool} (e : a ≡ p (get_or (rows_of w table) (t * 2) [])) where

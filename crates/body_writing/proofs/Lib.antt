@@ -1,4 +1,5 @@
--- 13: ranges and parts of the lent bytes, counts, cells; and of one table and of two, as code checks it
+-- 13: rows off the front of a table, ranges and parts of the lent bytes, counts, cells; and of one table and of two, as code checks it
+pub mod Fronts
 pub mod Inside
 pub mod Counts
 pub mod Lent

@@ -17,20 +17,20 @@ use Rattle.layout.proofs.Tests.{by_test}
 use Rattle.primitives.specs.Answers.{of_refusal, version_of}
 use Rattle.primitives.proofs.Versions.{known}
 use Rattle.primitives.specs.declared.Refusal as Code
-use Rattle.primitives_put.specs.Answers.{replied}
-use Rattle.primitives_put.specs.declared.Written.{Written}
-use Rattle.body_writing.specs.Blames.{Cause, blame_at, of_blamed}
+use Rattle.std.specs.Prelude.{Ok, Err}
+use Rattle.primitives_put.specs.Answers.{Written, replied}
+use Rattle.names.specs.declared.Found.{Found}
+use Rattle.body_writing.specs.Blames.{Blamed, Cause, blame_at, of_blamed}
 use Rattle.body_writing.specs.Writes.{refusal_of}
-use Rattle.body_writing.specs.declared.blames.Blamed.{Blamed}
 
 -- ---- the name
 
 module _ (m : ℕ) (e r : Refusal) (x : Blamed) where
-  pub by_found : (row f : ℕ) → x ≡ Blamed.Found row f → r ≡ naming m row f e → r ≡ blamed m e (of_blamed [] x)
-  by_found row f d g = g ∙ sym (ap (λ (y : Blamed). blamed m e (of_blamed [] y)) d)
+  pub by_found : (a : Found) → x ≡ Err a → r ≡ naming m a.row a.field e → r ≡ blamed m e (of_blamed [] x)
+  by_found a d g = g ∙ sym (ap (λ (y : Blamed). blamed m e (of_blamed [] y)) d)
 
-  pub by_past : x ≡ Blamed.Past → r ≡ naming m nowhere nowhere e → r ≡ blamed m e (of_blamed [] x)
-  by_past d g = g ∙ sym (ap (λ (y : Blamed). blamed m e (of_blamed [] y)) d)
+  pub by_past : (u : Unit {0}) → x ≡ Ok u → r ≡ naming m nowhere nowhere e → r ≡ blamed m e (of_blamed [] x)
+  by_past u d g = g ∙ sym (ap (λ (y : Blamed). blamed m e (of_blamed [] y)) d)
 
 module _ (m : ℕ) (l : Shape) (k : List ℕ) (x : Value (List ℕ) l) (e : Refusal) where
   pub no_field : fieldless e.number ≡ true → naming m nowhere nowhere e ≡ name_fault m l k x e
@@ -43,8 +43,8 @@ module _ (m : ℕ) (l : Shape) (k : List ℕ) (x : Value (List ℕ) l) (e : Refu
   by_blame h c o d = go o ∙ ap (blamed m e) d ∙ sym (rw h)
     where
       go : (o : Blamed) → blamed m e (of_blamed [] o) ≡ blamed m e (of_blamed c o)
-      go (Blamed.Found row f) = refl
-      go Blamed.Past = refl
+      go (Err a) = refl
+      go (Ok u) = refl
 
 -- two values that are blamed alike
 pub same_name : (m : ℕ) (k : List ℕ) (e : Refusal) (l l' : Shape) (x : Value (List ℕ) l) (y : Value (List ℕ) l') → (fieldless e.number ≡ false → blame e.number l nowhere 0 k x ≡ blame e.number l' nowhere 0 k y) → name_fault m l k x e ≡ name_fault m l' k y e
@@ -85,7 +85,7 @@ cause a zero bs out g =
     (λ t. not_field a (refused (because 2 0)) 2 0 listed.0 (rw t at g) refl (λ d. omega arith))
 
 -- from what a writer answers
-pub refusal_cause : (r : Written) (d : List ℕ) (e : ℕ) (bs out : List ℕ) → replied r d ≡ write_alone e bs out → (c : Code.Refusal) → r ≡ Written.Refused c → Cause c.number e
+pub refusal_cause : (r : Written) (d : List ℕ) (e : ℕ) (bs out : List ℕ) → replied r d ≡ write_alone e bs out → (c : Code.Refusal) → r ≡ Err c → Cause c.number e
 refusal_cause r d e bs out w c h = cause (of_refusal c) e bs out (ap (λ (a : Answer × List ℕ). a.0) (sym (ap (λ (q : Written). replied q d) h) ∙ w))
 
 -- a number that is of a field is a fault of good tables

@@ -1,14 +1,18 @@
 -- What a walk to the faulty field of a refused writer answers, in the definition's words: the first field, in what tables mean, whose fault is e. Assumes nothing.
-use Rattle.std.specs.Prelude.{false, List, [], ◌∷◌, ◌≢◌, ◌≡◌, ◌≤◌, ℕ, length}
+use Rattle.std.specs.Prelude.{false, List, [], ◌∷◌, ◌≢◌, ◌≡◌, ◌≤◌, ℕ, length, Result, Ok, Err}
 use Rattle.layout.specs.Names.{Sought, blame, blame_each, fieldless, past, there}
 use Rattle.layout.specs.Rows.{Shape}
 use Rattle.layout.specs.Tables.{Tables, rows_of, sum, times, value_of}
-use Rattle.body_writing.specs.declared.blames.Blamed.{Blamed}
+use Rattle.names.specs.declared.Found.{Found}
+
+-- the end of what was walked over, or the field that was found
+abbrev pub Blamed : Type 0
+Blamed = Result (Unit {0}) Found
 
 -- c: how many rows of each table were begun
 abbrev pub of_blamed : List ℕ → Blamed → Sought
-of_blamed c (Blamed.Found row f) = there row f
-of_blamed c Blamed.Past = past c
+of_blamed c (Err x) = there x.row x.field
+of_blamed c (Ok u) = past c
 
 module _ (lent : List ℕ) (e : ℕ) (l : Shape) where
   -- of the row at the front of table o, with the rows of other tables that it takes; its number is `row`, and l are its fields from f on

@@ -5,22 +5,19 @@ ghost use Rattle.primitives.specs.Answers.{of_refusal};
 ghost use Rattle.names.specs.Walks.{of_named};
 ghost use Rattle.body_writing.specs.Blames.{of_blamed};
 
-use names::{Named, Sought, named_by};
+use names::{Found, Named, named_by, without_field};
 use primitives::Refusal;
 
-// What a walk comes to: the row and the position of the field, or the end of what it walks over.
-#[derive(Drop)]
-pub enum Blamed {
-    Found { row: u64, field: u64 },
-    Past,
-}
+// What a walk comes to: the end of what it walks over, or the field, which ends the walk.
+pub type Blamed = Result<(), Found>;
 
 // A refusal with what its walk came to.
+#[tactic(auto, using(crate::proofs::NamedFaults::by_found, crate::proofs::NamedFaults::by_past))]
 pub fn blamed_by(e: Refusal, message: u8, found: Blamed) -> Named
     ensures { of_named result ≡ blamed message (of_refusal e) (of_blamed [] found) }
 {
     match found {
-        Blamed::Found { row, field } => named_by(e, message, Sought::Found { row, field }),
-        Blamed::Past => names::without_field(e, message),
+        Err(Found { row, field }) => named_by(e, message, Err(Found { row, field })),
+        Ok(()) => without_field(e, message),
     }
 }

@@ -6,11 +6,12 @@ ghost use Rattle.layout.specs.Write.{unless};
 ghost use Rattle.primitives_put.specs.Answers.{within};
 ghost use Rattle.body_writing.specs.Asked.{all_ranged, start_of, string_fault, tells, width_of};
 
-use primitives::{NOT_TEXT, TOO_WIDE};
+use primitives::{MINUS_ONE, NOT_TEXT, TOO_WIDE};
 use primitives_put::replies::fits;
 
 // Rows that have a range: (start, length), (start, length, count), (tag, start, length).
-#[derive(Drop)]
+// An enum and no const parameters: `all_ranged` may ask nothing of its callers, and `ranged` rests on a place inside the row.
+#[derive(Clone, Copy)]
 pub enum Row {
     Name,
     Topic,
@@ -19,15 +20,15 @@ pub enum Row {
 
 // ---- ranges
 
-// Are n bytes from `start` on inside so many? No sum, which could wrap.
+// Are n bytes from `start` on inside so many? A sum could wrap.
+#[tactic(auto, using(crate::proofs::Inside::outside, crate::proofs::Inside::started))]
 pub fn is_inside(size: usize, start: u64, n: u64) -> bool
     ensures { result ≡ inside size start n }
 {
-    let all = size as u64;
-    if all < start {
-        return false;
+    match (size as u64).checked_sub(start) {
+        Some(left) => n <= left,
+        None => false,
     }
-    n <= all - start
 }
 
 // Are the ranges of all rows inside? A row has its start at `at`, and its length behind it.
@@ -35,14 +36,10 @@ fn ranged(size: usize, table: &[u64], width: usize, at: usize) -> bool
     requires { at + 1 < width }
     ensures { result ≡ all_ranged width at size table.now }
 {
-    let n = table.len() / width;
-    let mut i: usize = 0;
-    while i < n {
-        let p = i * width + at;
-        if !is_inside(size, table[p], table[p + 1]) {
+    for row in table.chunks_exact(width) {
+        if !is_inside(size, row[at], row[at + 1]) {
             return false;
         }
-        i = i + 1;
     }
     true
 }
@@ -58,39 +55,36 @@ pub fn all_ranged(size: usize, table: &[u64], row: Row) -> bool
 }
 
 // n bytes of the lent ones from `start` on; those past the end are not there.
+#[tactic(auto, using(crate::proofs::Inside::part_is))]
 pub fn part(lent: &[u8], start: u64, n: u64) -> &[u8]
     ensures { result.now ≡ slice lent.now (start, n) }
 {
-    if (lent.len() as u64) < start {
-        return &lent[lent.len()..];
-    }
-    let from = start as usize;
-    if ((lent.len() - from) as u64) < n {
-        return &lent[from..];
-    }
-    &lent[from..from + n as usize]
+    let from = start.min(lent.len() as u64);
+    let left = &lent[from as usize..];
+    let len = n.min(left.len() as u64);
+    &left[..len as usize]
 }
 
 // ---- counts
 
 // The rows that a count tells: the cell of -1, for null or unset, tells none.
+#[tactic(auto, using(crate::proofs::Counts::told_none, crate::proofs::Counts::told_some))]
 pub fn rows_told(c: u64) -> u64
     ensures { result ≡ count c }
 {
-    if c == 18446744073709551615 {
-        return 0;
-    }
-    c
+    if c == MINUS_ONE { 0 } else { c }
 }
 
 // Is the cell a count? One of -1 is where `null` says so.
+#[tactic(auto, using(crate::proofs::Counts::count_null, crate::proofs::Counts::count_some))]
 fn is_count(c: u64, null: bool) -> bool
     ensures { result ≡ good_count null c }
 {
-    if c != 18446744073709551615 {
-        return c < 9223372036854775808;
+    if c == MINUS_ONE {
+        null
+    } else {
+        c < 9223372036854775808
     }
-    null
 }
 
 // Do the counts of all rows, which stand at `at`, tell n in all?
@@ -98,11 +92,9 @@ fn do_tell(table: &[u64], n: u64, width: usize, at: usize, null: bool) -> bool
     requires { at < width }
     ensures { result ≡ tells null at n (rows_of width table.now) }
 {
-    let rows = table.len() / width;
     let mut left = n;
-    let mut i: usize = 0;
-    while i < rows {
-        let c = table[i * width + at];
+    for row in table.chunks_exact(width) {
+        let c = row[at];
         if !is_count(c, null) {
             return false;
         }
@@ -110,8 +102,7 @@ fn do_tell(table: &[u64], n: u64, width: usize, at: usize, null: bool) -> bool
         if left < k {
             return false;
         }
-        left = left - k;
-        i = i + 1;
+        left -= k;
     }
     left == 0
 }
@@ -133,16 +124,16 @@ pub fn do_topics_tell(topics: &[u64], n: u64) -> bool
 // ---- faults
 
 // What is wrong with a number of a width that holds those from -half to half - 1: 11, or 0 for nothing.
+// Its promise and that of `string_fault` say a number, and 0 for no fault.
+#[tactic(auto, unfolding(layout::specs::Write::unless))]
 pub fn number_fault(c: u64, half: u64) -> u8
     ensures { result ≡ unless (within half c) 11 }
 {
-    if !fits(c, half) {
-        return TOO_WIDE;
-    }
-    0
+    if fits(c, half) { 0 } else { TOO_WIDE }
 }
 
 // What is wrong with the content of a STRING: 11 before 7, or 0 for neither.
+#[tactic(auto, using(crate::proofs::Inside::text_bad, crate::proofs::Inside::text_good, crate::proofs::Inside::text_wide))]
 pub fn string_fault(text: &[u8]) -> u8
     ensures { result ≡ string_fault text.now }
 {

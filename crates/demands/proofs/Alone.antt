@@ -19,7 +19,7 @@ use Rattle.layout.proofs.Refusals.{Told, tells_rows}
 use Rattle.layout.proofs.Steps.{then_bad}
 use Rattle.primitives.specs.Parts.{counted}
 use Rattle.primitives_put.specs.Answers.{count_fault}
-use Rattle.gateway_primitives.specs.Kinds.{Primitive, blob, boolean, count, given, integer, kinds, read_if, read_kind, read_of, shown, text, unsigned, varint, varlong, write_if, write_kind, write_of}
+use Rattle.gateway_primitives.specs.Kinds.{Primitive, blob, boolean, count, given, given_count, integer, kinds, read_if, read_kind, read_of, shown, text, unsigned, varint, varlong, write_if, write_kind, write_of}
 use Rattle.demands.specs.Refusals.{Answered, Fair}
 use Rattle.demands.proofs.Faults.{at_zero, basic_most, of_offered, stored_answered, unless_most}
 
@@ -144,9 +144,10 @@ read_kind_lem k s = go (get_elem? kinds k)
 
 -- ---- written
 
-count_most : (z : Size) (null : Bool) (n : ℕ) → count_fault z null n ≤ 11
+count_most : (z : Size) (null : Bool) (n : ℕ) → count_fault z (given_count null n) ≤ 11
 unfolding count_fault
-count_most z null n = unless_most (cond null true (ltb n (limit z))) 2 11 (omega arith)
+count_most z true n = omega arith
+count_most z false n = unless_most (ltb n (limit z)) 2 11 (omega arith)
 
 write_alone_lem : (f : ℕ) → f ≤ 11 → (bs out : List ℕ) → Answered 0 out (write_alone f bs out).1 (write_alone f bs out).0
 unfolding write_alone

@@ -7,11 +7,12 @@ use mathlib.Core.List.{List, [], ◌++◌, ◌∷◌, map}
 use mathlib.Core.Logic.{◌≢◌}
 use mathlib.Core.Option.{none}
 use mathlib.Core.Path.{◌∙◌, ◌≡◌, ap, refl, subst, sym}
-use Prim.Native.Nat.{◌/◌, ◌<◌, ◌^◌, ◌≤◌, suc, zero, ℕ}
+use Prim.Native.Nat.{◌/◌, ◌^◌, ◌≤◌, suc, zero, ℕ}
 use native.Mathlib.Omega.{arith}
 use lib.Dec.{eqb, lit<, ltb}
 use lib.IntN.{pos}
 use lib.ListN.{drop, get_or, length, length-map, take}
+use Rattle.std.specs.Prelude.{Ok}
 use Rattle.layout.specs.Reading.{Refusal}
 use Rattle.layout.specs.Primitives.{minus}
 use Rattle.layout.specs.Rows.{Shape, at, standing, stands, tag_rows}
@@ -30,10 +31,9 @@ use Rattle.layout.proofs.Proper.{api_response, both, owed}
 use Rattle.layout.proofs.Returned as Returned
 use Rattle.layout.proofs.Returned.{api_response_follows, response_tables}
 use Rattle.layout.proofs.Tests.{le-true}
-use Rattle.primitives_put.specs.declared.Written.{Written}
+use Rattle.primitives.specs.Answers.{Read, taken}
 use Rattle.api_versions_response.specs.Answers.{of_response}
 use Rattle.api_versions_response.specs.declared.ResponseBody.{ResponseBody}
-use Rattle.api_versions_response.specs.declared.ResponseReply.{ResponseReply}
 use Rattle.api_versions_response.proofs.FearedNight.{one_layout}
 use Rattle.api_versions_response.proofs.Replies.{row_widths}
 use Rattle.api_versions_response.proofs.Unique.{response_unique, said}
@@ -54,7 +54,7 @@ layout_of (suc zero) = refl
 layout_of (suc (suc zero)) = refl
 layout_of (suc (suc (suc v))) = refl
 
-pub at_most_one : (body : List ℕ) (v w : ℕ) (room room' : Pair) (x y : ResponseReply × Pair) (n k : ℕ) → WholeRead body v room x → WholeRead body w room' y → Accepts x n → Accepts y k → layout v ≡ layout w
+pub at_most_one : (body : List ℕ) (v w : ℕ) (room room' : Pair) (x y : Read ResponseBody × Pair) (n k : ℕ) → WholeRead body v room x → WholeRead body w room' y → Accepts x n → Accepts y k → layout v ≡ layout w
 at_most_one body v w room room' x y n k p q a b = sym (layout_of v) ∙ ap number_of (one_layout body (pos v) (pos w) room room' x y n k p q a b) ∙ layout_of w
 
 -- ---- the second: tools
@@ -111,7 +111,7 @@ joined_same : (rs : List (List ℕ)) → Contents.joined rs ≡ joined rs
 joined_same [] = refl
 joined_same (r ∷ rs) = ap (λ (cs : List ℕ). r ++ cs) (joined_same rs)
 
-module _ (out : List ℕ) (v : ℕ) (lent : List ℕ) (b : ResponseBody) (tables : Pair) (n : ℕ) (after : List ℕ) (e : Writes out v lent b tables (Written.Wrote n) after) where
+module _ (out : List ℕ) (v : ℕ) (lent : List ℕ) (b : ResponseBody) (tables : Pair) (n : ℕ) (after : List ℕ) (e : Writes out v lent b tables (Ok n) after) where
   abbrev st : Tables
   st = of_response b ∷ tables.0 ∷ tables.1 ∷ []
 
@@ -160,7 +160,7 @@ module _ (out : List ℕ) (v : ℕ) (lent : List ℕ) (b : ResponseBody) (tables
         let a : rows_of 3 (get_or su 2 []) ≡ rows_in 2 l H.x = ap (rows_of 3) (H.others 2 refl) ∙ rows_back 3 (rows_in 2 l H.x) (lit< tt) w in
         sym (joined_same (rows_of 3 (get_or su 2 []))) ∙ ap Contents.joined a ∙ sym (H.others 2 refl)
 
-    came_back : (room : Pair) → Room v tables room → (x : ResponseReply × Pair) → WholeRead body v room x → CameBack v lent b tables body room x
+    came_back : (room : Pair) → Room v tables room → (x : Read ResponseBody × Pair) → WholeRead body v room x → CameBack v lent b tables body room x
     unfolding whole_read laid
     came_back room r x p =
         let s1 = get_or su 1 [] in
@@ -171,22 +171,22 @@ module _ (out : List ℕ) (v : ℕ) (lent : List ℕ) (b : ResponseBody) (tables
         sym (rows_many 3 s2) ∙ sym (length-map (rows_of 3 s2) (tag_shown body)) ∙ ap length tags_are ∙ length-map (tags_kept v (rows_of 3 tables.1)) (tag_shown lent) in
         let f : needed (widths Api.response) (drop 1 su) (room.0 ∷ room.1 ∷ []) ≡ none =
         (λ i. needed (row_widths i) (d i) (room.0 ∷ room.1 ∷ [])) ∙ fits s1 s2 room.0 room.1 (subst (λ (u : ℕ). u ≤ length room.0 / 4) (sym j) r.0) (subst (λ (u : ℕ). u ≤ length room.1 / 3) (sym k) r.1) in
-        let y : ResponseReply × Pair = (ResponseReply.Took (body_back v b) (length body), (onto s1 room.0, onto s2 room.1)) in
+        let y : Read ResponseBody × Pair = (taken (body_back v b) (length body), (onto s1 room.0, onto s2 room.1)) in
         let q : said x ≡ (accepted (get_or su 0 []) (length body), laid (drop 1 su) (room.0 ∷ room.1 ∷ [])) =
         p ∙ read_answer_lem Api.response (pos v) body (room.0 ∷ room.1 ∷ []) true su (length body) B.is_seen f in
         let a : laid (drop 1 su) (room.0 ∷ room.1 ∷ []) ≡ onto s1 room.0 ∷ onto s2 room.1 ∷ [] = ap (λ (u : Tables). laid u (room.0 ∷ room.1 ∷ [])) d in
         let z : x ≡ y = response_unique _ x y q (λ i. (accepted (sym own_is i) (length body), sym a i)) in
         record {
-          reply = ap (λ (u : ResponseReply × Pair). u.0) z;
-          items = ap (λ (u : ResponseReply × Pair). u.1.0) z ∙ ap (λ (u : List ℕ). onto u room.0) cells_are;
+          reply = ap (λ (u : Read ResponseBody × Pair). u.0) z;
+          items = ap (λ (u : Read ResponseBody × Pair). u.1.0) z ∙ ap (λ (u : List ℕ). onto u room.0) cells_are;
           tag_cells = s2;
-          tags = ap (λ (u : ResponseReply × Pair). u.1.1) z;
+          tags = ap (λ (u : Read ResponseBody × Pair). u.1.1) z;
           whole_rows = tags_whole;
           same_tags = tags_are;
         }
 
   -- what was written at v is accepted whole at v, into tables with room, and comes back
-  pub comes_back : (room : Pair) → Room v tables room → (x : ResponseReply × Pair) → WholeRead body v room x → CameBack v lent b tables body room x
+  pub comes_back : (room : Pair) → Room v tables room → (x : Read ResponseBody × Pair) → WholeRead body v room x → CameBack v lent b tables body room x
   comes_back =
       let B = Returned.comes_back Api.response api_response response_tables api_response_follows v lent st out [] n after refl (sym e) true in
       let o = write_inv Api.response (pos v) lent st out [] n after (sym e) in
@@ -196,7 +196,7 @@ module _ (out : List ℕ) (v : ℕ) (lent : List ℕ) (b : ResponseBody) (tables
       came_back B m.good_tables (subst (λ (k : ℕ). Holds true (shape Api.response k) body (length body) B.su) i (tables_are Api.response api_response true (pos v) body B.su (length body) s))
 
   -- and the other two layouts refuse it, with one refusal whatever tables are lent, and leave these as they were
-  pub others : (w : ℕ) → layout v ≢ layout w → (r : Refusal) × ((room : Pair) (x : ResponseReply × Pair) → WholeRead body w room x → Refuses r room x)
+  pub others : (w : ℕ) → layout v ≢ layout w → (r : Refusal) × ((room : Pair) (x : Read ResponseBody × Pair) → WholeRead body w room x → Refuses r room x)
   others w apart =
       let d = (written_once (pos v) lent st out [] n after (sym e)).1 (pos w) (λ i. apart (sym (layout_of v) ∙ ap number_of i ∙ layout_of w)) in (
         d.0,

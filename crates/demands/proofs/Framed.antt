@@ -9,6 +9,7 @@ use lib.Dec.{leb, ltb}
 use lib.IntN.{negsuc, pos, ℤ}
 use lib.ListN.{drop, get_or, length, length-append, take}
 use lib.Seq.{length-take-le, take_at}
+use Rattle.std.specs.Prelude.{Ok}
 use Rattle.layout.specs.Reading.{Refusal, Res, bad, because, ok}
 use Rattle.layout.specs.Primitives.{bytes, minus}
 use Rattle.layout.specs.Rows.{Shape, Value, at, standing, stands, tag_rows}
@@ -33,7 +34,6 @@ use Rattle.layout.proofs.Trip.{lays, tables_mean}
 use Rattle.primitives.specs.declared.Field.{Field}
 use Rattle.body_reading.specs.Cells.{field_cells}
 use Rattle.primitives_put.specs.Answers.{replied}
-use Rattle.primitives_put.specs.declared.Written.{Written}
 use Rattle.frame.specs.Answers.{of_request, of_response}
 use Rattle.frame.specs.declared.RequestHeader.{RequestHeader}
 use Rattle.frame.specs.declared.ResponseHeader.{ResponseHeader}
@@ -251,10 +251,10 @@ unfolding shape at stands standing tag_rows request_rows settled_row settled_cel
 request_own lent z zero a b k y c f g = absurd (omega arith)
 request_own lent z (suc zero) a b k y c Field.Absent g = refl
 request_own lent z (suc zero) a b k y c Field.Null g = refl
-request_own lent z (suc zero) a b k y c (Field.Present s n) g = refl
+request_own lent z (suc zero) a b k y c (Field.Present x) g = refl
 request_own lent z (suc (suc zero)) a b k y c Field.Absent g = refl
 request_own lent z (suc (suc zero)) a b k y c Field.Null g = refl
-request_own lent z (suc (suc zero)) a b k y c (Field.Present s n) g = refl
+request_own lent z (suc (suc zero)) a b k y c (Field.Present x) g = refl
 request_own lent z (suc (suc (suc v))) a b k y c f g = absurd (omega arith)
 
 response_own : (lent : List ℕ) (z v : ℕ) → v ≤ 1 → (c g : ℕ) → settled_row lent (shape (with_size (Headers.response).rows) v) (z ∷ c ∷ g ∷ []) ≡ num z ∷ num c ∷ num (header_tags_back 1 v g) ∷ []
@@ -264,7 +264,7 @@ response_own lent z (suc zero) b c g = refl
 response_own lent z (suc (suc v)) b c g = absurd (omega arith)
 
 -- the frame at the front of an output, of a write that was accepted
-module _ (h : Header) (v : ℕ) (lent : List ℕ) (st : Tables) (rest out after : List ℕ) (n : ℕ) (e : replied (Written.Wrote n) after ≡ frame_written h (pos v) lent st rest out) where
+module _ (h : Header) (v : ℕ) (lent : List ℕ) (st : Tables) (rest out after : List ℕ) (n : ℕ) (e : replied (Ok n) after ≡ frame_written h (pos v) lent st rest out) where
   is_framed : Framed h v lent st rest (take n after) n
   is_framed =
       let w = wrote h v lent st rest out [] n after (sym e) in
@@ -275,14 +275,14 @@ module _ (h : Header) (v : ℕ) (lent : List ℕ) (st : Tables) (rest out after 
 
 -- out, what it is afterwards, and what was lent: any
 module _ (out : List ℕ) (v : ℕ) (lent : List ℕ) (n : ℕ) (after tags body : List ℕ) where
-  pub request_header_lem : (x : RequestHeader) → replied (Written.Wrote n) after ≡ frame_written Headers.request (pos v) lent (of_request x ∷ tags ∷ []) body out →
+  pub request_header_lem : (x : RequestHeader) → replied (Ok n) after ≡ frame_written Headers.request (pos v) lent (of_request x ∷ tags ∷ []) body out →
       HeaderBack Headers.request request_header_tables v lent (of_request x) (tags ∷ []) body (take n after) (request_header_back (length (take n after) - 4) v lent x)
   request_header_lem x e =
       let d = is_framed Headers.request v lent (of_request x ∷ tags ∷ []) body out after n e in
       let B = frame_back Headers.request request_header_tables request_heads v lent (of_request x) (tags ∷ []) body (take n after) n d refl in
       record { back = B; own_row = B.rows.own_row ∙ request_own lent _ v d.taken d.known x.request_api_key x.request_api_version x.correlation_id x.client_id x.tags }
 
-  pub response_header_lem : (x : ResponseHeader) → replied (Written.Wrote n) after ≡ frame_written Headers.response (pos v) lent (of_response x ∷ tags ∷ []) body out →
+  pub response_header_lem : (x : ResponseHeader) → replied (Ok n) after ≡ frame_written Headers.response (pos v) lent (of_response x ∷ tags ∷ []) body out →
       HeaderBack Headers.response response_header_tables v lent (of_response x) (tags ∷ []) body (take n after) (response_header_back (length (take n after) - 4) v x)
   response_header_lem x e =
       let d = is_framed Headers.response v lent (of_response x ∷ tags ∷ []) body out after n e in

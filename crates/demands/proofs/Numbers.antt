@@ -3,6 +3,7 @@ use mathlib.Core.Bool.{false}
 use mathlib.Core.List.{List, [], ◌++◌, ◌∷◌}
 use mathlib.Core.Path.{◌∙◌, ◌≡◌, refl}
 use Prim.Native.Nat.{◌≤◌, ℕ}
+use Rattle.std.specs.Prelude.{Option, Some, None}
 use native.Mathlib.Omega.{arith}
 use lib.Dec.{eqb, lit<}
 use lib.ListN.{drop, get_or, length}
@@ -15,7 +16,6 @@ use Rattle.layout.specs.Messages.ApiVersions as Api
 use Rattle.layout.specs.Settled.{Shown, gone, gone_count, num, part, settled_cells, settled_count, settled_row, settled_span, shown_cells, shown_row, shown_span}
 use Rattle.primitives.proofs.Versions.{up_to}
 use Rattle.body_reading.specs.Cells.{versioned_cells}
-use Rattle.body_reading.specs.declared.versioned.Versioned.{Versioned}
 use Rattle.demands.specs.Returned.{item_back, tag_shown, tags_back, throttle_back}
 
 abbrev pub num_of : Shown → ℕ
@@ -45,14 +45,14 @@ own_back bs v h (a ∷ b ∷ c ∷ d ∷ []) e = absurd (omega arith)
 own_back bs v h (a ∷ b ∷ c ∷ d ∷ f ∷ []) e = own_nums bs v h a b c d f
 own_back bs v h (a ∷ b ∷ c ∷ d ∷ f ∷ g ∷ r) e = absurd (omega arith)
 
-abbrev OwnSettled : List ℕ → ℕ → ℕ → Versioned → ℕ → ℕ → Type 0
+abbrev OwnSettled : List ℕ → ℕ → ℕ → Option ℕ → ℕ → ℕ → Type 0
 OwnSettled lent e n t g v = nums (settled_row lent (shape Api.response v) (e ∷ n ∷ (versioned_cells t ++ (g ∷ [])))) ≡ e ∷ n ∷ (versioned_cells (throttle_back v t) ++ (tags_back v g ∷ []))
 
-pub own_settled : (lent : List ℕ) (v : ℕ) → v ≤ 3 → (e n : ℕ) (t : Versioned) (g : ℕ) → eqb n minus ≡ false →
+pub own_settled : (lent : List ℕ) (v : ℕ) → v ≤ 3 → (e n : ℕ) (t : Option ℕ) (g : ℕ) → eqb n minus ≡ false →
     nums (settled_row lent (shape Api.response v) (e ∷ n ∷ (versioned_cells t ++ (g ∷ [])))) ≡ e ∷ n ∷ (versioned_cells (throttle_back v t) ++ (tags_back v g ∷ []))
 unfolding shape at stands standing tag_rows Api.response_rows Api.key_rows settled_row settled_cells shown_cells settled_count gone gone_count width
-own_settled lent v h e n Versioned.Absent g i = up_to 3 (OwnSettled lent e n Versioned.Absent g) (rw i, (rw i, (rw i, rw i))) v h
-own_settled lent v h e n (Versioned.Present t) g i = up_to 3 (OwnSettled lent e n (Versioned.Present t) g) (rw i, (rw i, (rw i, rw i))) v h
+own_settled lent v h e n None g i = up_to 3 (OwnSettled lent e n None g) (rw i, (rw i, (rw i, rw i))) v h
+own_settled lent v h e n (Some t) g i = up_to 3 (OwnSettled lent e n (Some t) g) (rw i, (rw i, (rw i, rw i))) v h
 
 -- ---- items
 

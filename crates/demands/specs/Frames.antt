@@ -62,7 +62,7 @@ pub record FrameWritable (h : Header) (v : ℕ) (lent : List ℕ) (st : Tables) 
 abbrev pub client_back : List ℕ → Field → List Shown
 client_back lent Field.Absent = num 1 ∷ part [] ∷ []
 client_back lent Field.Null = num 1 ∷ part [] ∷ []
-client_back lent (Field.Present a n) = num 2 ∷ part (slice lent (a, n)) ∷ []
+client_back lent (Field.Present x) = num 2 ∷ part (slice lent (x.start, x.len)) ∷ []
 
 -- headers from `first` on have tags; unset they are none, and the others show −1
 abbrev pub header_tags_back : ℕ → ℕ → ℕ → ℕ

@@ -1,13 +1,13 @@
 -- The second demand, as far as it is proved: "reading and writing .. are proved against definitions from Kafka's protocol guide and RFC 3629". What a call accepts means just those bytes,
 -- and what the reader or the writer of the layout accepts within the limits is not refused. `read` and `write` (layout/specs/Read.antt, Write.antt) know nothing of tables. Assumes nothing.
-use Rattle.std.specs.Prelude.{Bool, true, List, [], ◌++◌, ◌≡◌, ◌≤◌, ℕ, pos, drop, get_or, length}
+use Rattle.std.specs.Prelude.{Bool, true, List, [], ◌≡◌, ◌≤◌, ℕ, pos, drop, get_or, length}
 use Rattle.std.proofs.Math.Option.{none}
 use Rattle.layout.specs.Reading.{ok}
 use Rattle.layout.specs.Rows.{Value}
 use Rattle.layout.specs.Read.{by_bytes, read}
 use Rattle.layout.specs.Write.{fault, write}
 use Rattle.layout.specs.Tables.{Tables, good}
-use Rattle.layout.specs.Answers.{Answer, Message, accepted, laid, meant, most, needed, read_answer, shape, widths, write_answer}
+use Rattle.layout.specs.Answers.{Answer, Message, accepted, laid, meant, most, needed, read_answer, shape, widths}
 
 -- A read of the message s at version v that showed `row`, used n bytes and left `after` in place of `room`: the rows that it filled mean what the reader of the layout says of the bytes.
 pub record Says (w : Bool) (m : Message) (v : ℕ) (s : List ℕ) (room : Tables) (row : List ℕ) (n : ℕ) (after : Tables) : Type 0 where

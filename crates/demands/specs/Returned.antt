@@ -1,15 +1,14 @@
 -- An ApiVersions response as it comes back once it was written at version v, "with fields that version lacks absent and unset ones at their defaults". Assumes nothing.
-use Rattle.std.specs.Prelude.{cond, List, [], ◌++◌, ◌∷◌, suc, zero, ℕ, eqb, leb, drop, get_or, length}
+use Rattle.std.specs.Prelude.{cond, List, [], ◌++◌, ◌∷◌, suc, zero, ℕ, Option, Some, None, eqb, leb, drop, get_or, length}
 use Rattle.layout.specs.Primitives.{minus}
 use Rattle.layout.specs.Tables.{slice}
-use Rattle.body_reading.specs.declared.versioned.Versioned.{Versioned}
 use Rattle.api_versions_response.specs.declared.ResponseBody.{ResponseBody}
 
 -- version 0 lacks the throttle time; unset it is 0
-abbrev pub throttle_back : ℕ → Versioned → Versioned
-throttle_back zero t = Versioned.Absent
-throttle_back (suc v) Versioned.Absent = Versioned.Present 0
-throttle_back (suc v) (Versioned.Present n) = Versioned.Present n
+abbrev pub throttle_back : ℕ → Option ℕ → Option ℕ
+throttle_back zero t = None
+throttle_back (suc v) None = Some 0
+throttle_back (suc v) (Some n) = Some n
 
 -- versions below 3 lack tags, and show −1; unset they are none
 abbrev pub tags_back : ℕ → ℕ → ℕ

@@ -2,10 +2,11 @@
 // expected.py has what it must write, from the rules and from Python's own arithmetic.
 #![tactic(auto)]
 
-use primitives::{Count, Field, Flag, Integer, Nullable, Number, Part, Refusal};
+use primitives::{Field, Read, Refusal, Span};
+use primitives_calls::{read, write};
 use primitives_put::Written;
 use std::io;
-use tagged_fields::reading::Tagged;
+use tagged_fields::{reading, writing};
 
 fn hex(rt: &impl Print, s: &[u8]) -> io::Result<()> {
     for b in s {
@@ -18,98 +19,77 @@ fn refused(rt: &impl Print, e: Refusal) -> io::Result<()> {
     print!(rt; "{} at {}, need {}", e.number, e.place, e.need)
 }
 
-fn refused_line(rt: &impl Print, e: Refusal) -> io::Result<()> {
-    refused(rt, e)?;
-    println!(rt)
+// ---- what was read, and what was written
+
+// A value that a reader takes, as it is told.
+trait Shown {
+    fn show(&self, rt: &impl Print) -> io::Result<()>;
 }
 
-fn used(rt: &impl Print, n: usize) -> io::Result<()> {
-    println!(rt; ", used {n}")
-}
-
-fn number(rt: &impl Print, r: Number) -> io::Result<()> {
-    match r {
-        Number::Took { value, used: n } => {
-            print!(rt; "{value}")?;
-            used(rt, n)
-        }
-        Number::Refused(e) => refused_line(rt, e),
+impl Shown for u64 {
+    fn show(&self, rt: &impl Print) -> io::Result<()> {
+        print!(rt; "{self}")
     }
 }
 
 // A signed number as its eight bytes.
-fn integer(rt: &impl Print, r: Integer) -> io::Result<()> {
-    match r {
-        Integer::Took { value, used: n } => {
-            let mut out = [0u8; 8];
-            let w = primitives_calls::write::int64(&mut out, value);
-            wrote(rt, &out, w)?;
-            used(rt, n)
-        }
-        Integer::Refused(e) => refused_line(rt, e),
+impl Shown for i64 {
+    fn show(&self, rt: &impl Print) -> io::Result<()> {
+        let mut out = [0u8; 8];
+        let r = write::int64(&mut out, *self);
+        wrote(rt, &out, r)
     }
 }
 
-fn flag(rt: &impl Print, r: Flag) -> io::Result<()> {
-    match r {
-        Flag::Took { value, used: n } => {
-            print!(rt; "{}", value as u64)?;
-            used(rt, n)
-        }
-        Flag::Refused(e) => refused_line(rt, e),
+impl Shown for bool {
+    fn show(&self, rt: &impl Print) -> io::Result<()> {
+        print!(rt; "{}", *self as u64)
     }
 }
 
-fn count(rt: &impl Print, r: Count) -> io::Result<()> {
-    match r {
-        Count::Null { used: n } => {
-            print!(rt; "null")?;
-            used(rt, n)
+// A count, or null.
+impl Shown for Option<u64> {
+    fn show(&self, rt: &impl Print) -> io::Result<()> {
+        match self {
+            Some(n) => print!(rt; "{n}"),
+            None => print!(rt; "null"),
         }
-        Count::Took { count: k, used: n } => {
-            print!(rt; "{k}")?;
-            used(rt, n)
-        }
-        Count::Refused(e) => refused_line(rt, e),
     }
 }
 
-fn part(rt: &impl Print, r: Part) -> io::Result<()> {
-    match r {
-        Part::Took {
-            start,
-            len,
-            used: n,
-        } => {
-            print!(rt; "{len} from {start}")?;
-            used(rt, n)
-        }
-        Part::Refused(e) => refused_line(rt, e),
+impl Shown for Span {
+    fn show(&self, rt: &impl Print) -> io::Result<()> {
+        print!(rt; "{} from {}", self.len, self.start)
     }
 }
 
-fn field(rt: &impl Print, f: Field) -> io::Result<()> {
-    match f {
-        Field::Absent => print!(rt; "absent"),
-        Field::Null => print!(rt; "null"),
-        Field::Present { start, len } => print!(rt; "{len} from {start}"),
+impl Shown for Field {
+    fn show(&self, rt: &impl Print) -> io::Result<()> {
+        match self {
+            Field::Absent => print!(rt; "absent"),
+            Field::Null => print!(rt; "null"),
+            Field::Present(part) => part.show(rt),
+        }
     }
 }
 
-fn nullable(rt: &impl Print, r: Nullable) -> io::Result<()> {
+fn told<T: Shown + Drop>(rt: &impl Print, r: Read<T>) -> io::Result<()> {
     match r {
-        Nullable::Took { field: f, used: n } => {
-            field(rt, f)?;
-            used(rt, n)
+        Ok(taken) => {
+            taken.value.show(rt)?;
+            println!(rt; ", used {}", taken.next)
         }
-        Nullable::Refused(e) => refused_line(rt, e),
+        Err(e) => {
+            refused(rt, e)?;
+            println!(rt)
+        }
     }
 }
 
 fn wrote(rt: &impl Print, out: &[u8], r: Written) -> io::Result<()> {
     match r {
-        Written::Wrote(n) => hex(rt, primitives::shown::part(out, 0, n)),
-        Written::Refused(e) => refused(rt, e),
+        Ok(n) => hex(rt, primitives::shown::part(out, 0, n)),
+        Err(e) => refused(rt, e),
     }
 }
 
@@ -145,9 +125,9 @@ fn unsigned_varints(rt: &impl Print) -> io::Result<()> {
     ];
     for n in ends {
         let mut out = [0u8; 10];
-        let r = primitives_calls::write::unsigned_varint(&mut out, n);
+        let r = write::unsigned_varint(&mut out, n);
         wrote_line(rt, &out, r)?;
-        number(rt, primitives_calls::read::unsigned_varint(&out))?;
+        told(rt, read::unsigned_varint(&out))?;
     }
     Ok(())
 }
@@ -171,9 +151,9 @@ fn varints(rt: &impl Print) -> io::Result<()> {
     ];
     for n in ends {
         let mut out = [0u8; 10];
-        let r = primitives_calls::write::varint(&mut out, n);
+        let r = write::varint(&mut out, n);
         wrote_line(rt, &out, r)?;
-        integer(rt, primitives_calls::read::varint(&out))?;
+        told(rt, read::varint(&out))?;
     }
     Ok(())
 }
@@ -191,9 +171,9 @@ fn varlongs(rt: &impl Print) -> io::Result<()> {
     ];
     for n in ends {
         let mut out = [0u8; 10];
-        let r = primitives_calls::write::varlong(&mut out, n);
+        let r = write::varlong(&mut out, n);
         wrote_line(rt, &out, r)?;
-        integer(rt, primitives_calls::read::varlong(&out))?;
+        told(rt, read::varlong(&out))?;
     }
     Ok(())
 }
@@ -201,24 +181,15 @@ fn varlongs(rt: &impl Print) -> io::Result<()> {
 // ---- the examples of the rules
 
 fn texts(rt: &impl Print) -> io::Result<()> {
-    part(
-        rt,
-        primitives_calls::read::string(&[0, 4, 0xF4, 0x8F, 0xBF, 0xBF]),
-    )?;
-    part(
-        rt,
-        primitives_calls::read::string(&[0, 4, 0xF4, 0x90, 0x80, 0x80]),
-    )?;
-    part(rt, primitives_calls::read::string(&[0, 2, 0xC0, 0x80]))?;
-    part(
-        rt,
-        primitives_calls::read::string(&[0, 3, 0xED, 0xA0, 0x80]),
-    )
+    told(rt, read::string(&[0, 4, 0xF4, 0x8F, 0xBF, 0xBF]))?;
+    told(rt, read::string(&[0, 4, 0xF4, 0x90, 0x80, 0x80]))?;
+    told(rt, read::string(&[0, 2, 0xC0, 0x80]))?;
+    told(rt, read::string(&[0, 3, 0xED, 0xA0, 0x80]))
 }
 
 fn written(rt: &impl Print, text: &[u8]) -> io::Result<()> {
     let mut out = [0u8; 6];
-    let r = primitives_calls::write::string(&mut out, text);
+    let r = write::string(&mut out, text);
     wrote_line(rt, &out, r)
 }
 
@@ -232,48 +203,32 @@ fn written_texts(rt: &impl Print) -> io::Result<()> {
 
 fn size(rt: &impl Print, r: Written) -> io::Result<()> {
     match r {
-        Written::Wrote(n) => println!(rt; "{n} bytes"),
-        Written::Refused(e) => refused_line(rt, e),
+        Ok(n) => println!(rt; "{n} bytes"),
+        Err(e) => {
+            refused(rt, e)?;
+            println!(rt)
+        }
     }
 }
 
 fn long_texts(rt: &impl Print) -> io::Result<()> {
     let text = [b'a'; 32768];
     let mut out = [0u8; 65536];
-    size(
-        rt,
-        primitives_calls::write::string(&mut out, &text[..32767]),
-    )?;
-    part(rt, primitives_calls::read::string(&out))?;
-    size(rt, primitives_calls::write::string(&mut out, &text))?;
-    size(
-        rt,
-        primitives_calls::write::nullable_string(&mut out, false, &text),
-    )?;
-    size(rt, primitives_calls::write::compact_string(&mut out, &text))
+    size(rt, write::string(&mut out, &text[..32767]))?;
+    told(rt, read::string(&out))?;
+    size(rt, write::string(&mut out, &text))?;
+    size(rt, write::nullable_string(&mut out, Some(&text)))?;
+    size(rt, write::compact_string(&mut out, &text))
 }
 
 fn lengths(rt: &impl Print) -> io::Result<()> {
-    nullable(rt, primitives_calls::read::nullable_string(&[0xFF, 0xFF]))?;
-    nullable(rt, primitives_calls::read::nullable_string(&[0xFF, 0xFE]))?;
-    part(rt, primitives_calls::read::compact_string(&[0]))?;
-    part(rt, primitives_calls::read::compact_string(&[1]))?;
-    nullable(rt, primitives_calls::read::compact_nullable_string(&[0]))?;
-    part(rt, primitives_calls::read::compact_bytes(&[0]))?;
-    part(
-        rt,
-        primitives_calls::read::records(&[0xFF, 0xFF, 0xFF, 0xFF]),
-    )
-}
-
-fn tagged(rt: &impl Print, r: Tagged) -> io::Result<()> {
-    match r {
-        Tagged::Took { count: k, used: n } => {
-            print!(rt; "{k}")?;
-            used(rt, n)
-        }
-        Tagged::Refused(e) => refused_line(rt, e),
-    }
+    told(rt, read::nullable_string(&[0xFF, 0xFF]))?;
+    told(rt, read::nullable_string(&[0xFF, 0xFE]))?;
+    told(rt, read::compact_string(&[0]))?;
+    told(rt, read::compact_string(&[1]))?;
+    told(rt, read::compact_nullable_string(&[0]))?;
+    told(rt, read::compact_bytes(&[0]))?;
+    told(rt, read::records(&[0xFF, 0xFF, 0xFF, 0xFF]))
 }
 
 fn cells(rt: &impl Print, table: &[u64]) -> io::Result<()> {
@@ -286,7 +241,7 @@ fn cells(rt: &impl Print, table: &[u64]) -> io::Result<()> {
 // The table begins as seven sevens: two rows, and a cell that is no row.
 fn tag_rows(rt: &impl Print, msg: &[u8]) -> io::Result<()> {
     let mut table = [7u64; 7];
-    tagged(rt, tagged_fields::reading::tagged_fields(msg, &mut table))?;
+    told(rt, reading::tagged_fields(msg, &mut table))?;
     cells(rt, &table)
 }
 
@@ -302,7 +257,7 @@ fn tag_buffers(rt: &impl Print) -> io::Result<()> {
 // Two bytes are lent, and there is room for seven.
 fn tags_put(rt: &impl Print, count: u64, table: &[u64]) -> io::Result<()> {
     let mut out = [0u8; 7];
-    let r = tagged_fields::writing::tagged_fields(&mut out, &[0xAA, 0xBB], count, table);
+    let r = writing::tagged_fields(&mut out, &[0xAA, 0xBB], count, table);
     wrote_line(rt, &out, r)
 }
 
@@ -315,27 +270,27 @@ fn written_tags(rt: &impl Print) -> io::Result<()> {
 }
 
 fn no_numbers(rt: &impl Print, msg: &[u8]) -> io::Result<()> {
-    integer(rt, primitives_calls::read::int8(msg))?;
-    integer(rt, primitives_calls::read::int16(msg))?;
-    integer(rt, primitives_calls::read::int32(msg))?;
-    integer(rt, primitives_calls::read::int64(msg))?;
-    flag(rt, primitives_calls::read::boolean(msg))?;
-    number(rt, primitives_calls::read::unsigned_varint(msg))?;
-    integer(rt, primitives_calls::read::varint(msg))?;
-    integer(rt, primitives_calls::read::varlong(msg))
+    told(rt, read::int8(msg))?;
+    told(rt, read::int16(msg))?;
+    told(rt, read::int32(msg))?;
+    told(rt, read::int64(msg))?;
+    told(rt, read::boolean(msg))?;
+    told(rt, read::unsigned_varint(msg))?;
+    told(rt, read::varint(msg))?;
+    told(rt, read::varlong(msg))
 }
 
 fn no_fields(rt: &impl Print, msg: &[u8]) -> io::Result<()> {
-    count(rt, primitives_calls::read::array_count(msg))?;
-    count(rt, primitives_calls::read::compact_array_count(msg))?;
-    part(rt, primitives_calls::read::bytes(msg))?;
-    nullable(rt, primitives_calls::read::nullable_bytes(msg))?;
-    part(rt, primitives_calls::read::compact_bytes(msg))?;
-    part(rt, primitives_calls::read::records(msg))?;
-    part(rt, primitives_calls::read::string(msg))?;
-    nullable(rt, primitives_calls::read::nullable_string(msg))?;
-    part(rt, primitives_calls::read::compact_string(msg))?;
-    nullable(rt, primitives_calls::read::compact_nullable_string(msg))
+    told(rt, read::array_count(msg))?;
+    told(rt, read::compact_array_count(msg))?;
+    told(rt, read::bytes(msg))?;
+    told(rt, read::nullable_bytes(msg))?;
+    told(rt, read::compact_bytes(msg))?;
+    told(rt, read::records(msg))?;
+    told(rt, read::string(msg))?;
+    told(rt, read::nullable_string(msg))?;
+    told(rt, read::compact_string(msg))?;
+    told(rt, read::compact_nullable_string(msg))
 }
 
 fn main(rt: HostRuntime) -> io::Result<()> {

@@ -6,17 +6,10 @@
 ghost use Rattle.std.specs.Prelude.{◌≡◌, ◌≤◌};
 ghost use Rattle.api_versions_response.specs.Answers.{accepting};
 
-use api_versions_response::{ResponseBody, ResponseReply};
-use body_reading::versioned::Versioned;
+use api_versions_response::ResponseBody;
 use body_writing::ranges::part;
-use primitives::Refusal;
-use primitives_put::Written;
-use std::io;
-
-// The signed number that a cell stands for.
-fn cell(rt: &impl Print, c: u64) -> io::Result<()> {
-    print!(rt; "{}", c.cast_signed())
-}
+use primitives::{MINUS_ONE, Read};
+use std::{fmt, io};
 
 fn hex(rt: &impl Print, s: &[u8]) -> io::Result<()> {
     for b in s {
@@ -25,113 +18,64 @@ fn hex(rt: &impl Print, s: &[u8]) -> io::Result<()> {
     println!(rt)
 }
 
-fn throttle(rt: &impl Print, t: Versioned) -> io::Result<()> {
-    match t {
-        Versioned::Absent => print!(rt; "absent"),
-        Versioned::Present(n) => cell(rt, n),
+// A cell that a version may lack, as the signed number that it stands for.
+#[derive(Clone, Copy)]
+struct Maybe(Option<u64>);
+
+impl fmt::Display for Maybe {
+    fn fmt<W: fmt::Write>(&self, f: &mut fmt::Formatter<W>) -> fmt::Result {
+        match self.0 {
+            Some(c) => write!(f, "{}", c.cast_signed()),
+            None => write!(f, "absent"),
+        }
     }
 }
 
-fn row(rt: &impl Print, key: u64, min: u64, max: u64, tags: u64) -> io::Result<()> {
-    print!(rt; "    key ")?;
-    cell(rt, key)?;
-    print!(rt; ": ")?;
-    cell(rt, min)?;
-    print!(rt; " to ")?;
-    cell(rt, max)?;
-    print!(rt; ", tags ")?;
-    cell(rt, tags)?;
-    println!(rt)
-}
-
-// The rows that were filled.
+// The rows that were filled: key, minimum, maximum and number of tags.
 fn rows(rt: &impl Print, items: &[u64], filled: u64) -> io::Result<()> {
-    let n = items.len() / 4;
-    for i in 0..n {
-        if (i as u64) < filled {
-            row(
-                rt,
-                items[i * 4],
-                items[i * 4 + 1],
-                items[i * 4 + 2],
-                items[i * 4 + 3],
-            )?;
-        }
+    for row in items.chunks_exact(4).take(filled as usize) {
+        println!(rt;
+            "    key {}: {} to {}, tags {}",
+            row[0].cast_signed(),
+            row[1].cast_signed(),
+            row[2].cast_signed(),
+            row[3].cast_signed()
+        )?;
     }
     Ok(())
 }
 
-fn accepted(rt: &impl Print, body: ResponseBody, used: usize) -> io::Result<()> {
-    print!(rt; "accepted, used {used}, error ")?;
-    cell(rt, body.error)?;
-    print!(rt; ", items ")?;
-    cell(rt, body.items)?;
-    print!(rt; ", throttle ")?;
-    let t = body.throttle;
-    throttle(rt, t)?;
-    print!(rt; ", tags ")?;
-    cell(rt, body.tags)?;
-    println!(rt)
-}
-
-fn refused(rt: &impl Print, e: Refusal) -> io::Result<()> {
-    println!(rt; "refused, {} at {}", e.number, e.place)
-}
-
-fn chosen(rt: &impl Print, a: [i64; 3]) -> io::Result<()> {
-    println!(rt; "    agreed on key {}: {} of {}", a[0], a[1], a[2])
-}
-
 fn offered(rt: &impl Print, items: &[u64]) -> io::Result<()> {
-    let a = api_versions_agreement::agree(items);
-    chosen(rt, a[0])?;
-    chosen(rt, a[1])?;
-    chosen(rt, a[2])
+    for [key, version, most] in api_versions_agreement::agree(items) {
+        println!(rt; "    agreed on key {key}: {version} of {most}")?;
+    }
+    Ok(())
 }
 
 // What a read answered; where it accepted, its items and what is agreed on from them.
-fn told(rt: &impl Print, r: ResponseReply, items: &[u64]) -> io::Result<()> {
+fn told(rt: &impl Print, r: Read<ResponseBody>, items: &[u64]) -> io::Result<()> {
     match r {
-        ResponseReply::Took { body, used } => {
-            let n = body.items;
-            accepted(rt, body, used)?;
-            rows(rt, items, n)?;
+        Ok(taken) => {
+            let body = taken.value;
+            println!(rt;
+                "accepted, used {}, error {}, items {}, throttle {}, tags {}",
+                taken.next,
+                body.error.cast_signed(),
+                body.items.cast_signed(),
+                Maybe(body.throttle),
+                body.tags.cast_signed()
+            )?;
+            rows(rt, items, body.items)?;
             offered(rt, items)
         }
-        ResponseReply::Refused(e) => refused(rt, e),
+        Err(e) => println!(rt; "refused, {} at {}", e.number, e.place),
     }
 }
 
-// The tables begin as rows of no key.
-fn whole(rt: &impl Print, msg: &[u8], version: i64, name: &str) -> io::Result<()> {
-    let mut items = [18446744073709551615u64; 12];
-    let mut tags = [0u64; 9];
-    print!(rt; "  whole at {name}: ")?;
-    told(
-        rt,
-        api_versions_response::read_whole(msg, version, &mut items, &mut tags),
-        &items,
-    )
-}
-
-fn prefix(rt: &impl Print, msg: &[u8], version: i64, name: &str) -> io::Result<()> {
-    let mut items = [18446744073709551615u64; 12];
-    let mut tags = [0u64; 9];
-    print!(rt; "  prefix at {name}: ")?;
-    told(
-        rt,
-        api_versions_response::read(msg, version, &mut items, &mut tags),
-        &items,
-    )
-}
-
-fn accepts(r: ResponseReply) -> u64
+fn accepts(r: Read<ResponseBody>) -> u64
     ensures { result ≡ accepting r }
 {
-    match r {
-        ResponseReply::Took { body: _, used: _ } => 1,
-        ResponseReply::Refused(_) => 0,
-    }
+    r.is_ok() as u64
 }
 
 // The feared night cannot come: of the three layouts at most one accepts the body, and this is proved.
@@ -144,38 +88,33 @@ fn layouts(msg: &[u8], items: &mut [u64], tags: &mut [u64]) -> u64
     bare + throttled + flexible
 }
 
-fn body(rt: &impl Print, name: &str, msg: &[u8]) -> io::Result<()> {
-    print!(rt; "{name}")?;
+// The tables begin as rows of no key.
+fn body(rt: &impl Print, msg: &[u8]) -> io::Result<()> {
     hex(rt, msg)?;
-    let mut items = [0u64; 12];
-    let mut tags = [0u64; 9];
-    let accepting = layouts(msg, &mut items, &mut tags);
+    let accepting = layouts(msg, &mut [0; 12], &mut [0; 9]);
     println!(rt; "  layouts that accept it: {accepting}")?;
-    whole(rt, msg, 0, "0")?;
-    whole(rt, msg, 1, "1")?;
-    whole(rt, msg, 2, "2")?;
-    whole(rt, msg, 3, "3")?;
-    prefix(rt, msg, 0, "0")?;
-    prefix(rt, msg, 1, "1")?;
-    prefix(rt, msg, 2, "2")?;
-    prefix(rt, msg, 3, "3")
-}
-
-// What was written, as a body.
-fn again(rt: &impl Print, name: &str, r: Written, out: &[u8]) -> io::Result<()> {
-    match r {
-        Written::Wrote(n) => body(rt, name, part(out, 0, n as u64)),
-        Written::Refused(e) => refused(rt, e),
+    for version in 0..4 {
+        let mut items = [MINUS_ONE; 12];
+        let r = api_versions_response::read_whole(msg, version, &mut items, &mut [0; 9]);
+        print!(rt; "  whole at {version}: ")?;
+        told(rt, r, &items)?;
     }
+    for version in 0..4 {
+        let mut items = [MINUS_ONE; 12];
+        let r = api_versions_response::read(msg, version, &mut items, &mut [0; 9]);
+        print!(rt; "  prefix at {version}: ")?;
+        told(rt, r, &items)?;
+    }
+    Ok(())
 }
 
 // Three items, the second with a tag, a throttle time and an own tag: fields that the version lacks are dropped.
-fn written(rt: &impl Print, version: i64, name: &str) -> io::Result<()> {
+fn written(rt: &impl Print, version: i64) -> io::Result<()> {
     let mut out = [0u8; 40];
     let fields = ResponseBody {
         error: 0,
         items: 3,
-        throttle: Versioned::Present(100),
+        throttle: Some(100),
         tags: 1,
     };
     let r = api_versions_response::write(
@@ -186,53 +125,56 @@ fn written(rt: &impl Print, version: i64, name: &str) -> io::Result<()> {
         &[18, 0, 3, 0, 3, 0, 9, 1, 1, 4, 12, 0],
         &[7, 0, 1, 9, 1, 0],
     );
-    again(rt, name, r, &out)
+    print!(rt; "Written at {version}:")?;
+    match r {
+        Ok(n) => body(rt, part(&out, 0, n as u64)),
+        Err(e) => println!(rt; " refused, {}", e.number),
+    }
 }
 
-fn main(rt: HostRuntime) -> io::Result<()> {
-    body(
-        &rt,
+const BODIES: [(&str, &[u8]); 9] = [
+    (
         "E9, version 0, one row:",
         b"\x00\x00\x00\x00\x00\x01\x00\x12\x00\x00\x00\x03",
-    )?;
-    body(
-        &rt,
+    ),
+    (
         "E10, version 1, the same row, throttle 0:",
         b"\x00\x00\x00\x00\x00\x01\x00\x12\x00\x00\x00\x03\x00\x00\x00\x00",
-    )?;
-    body(
-        &rt,
+    ),
+    (
         "E11, version 3, the same row:",
         b"\x00\x00\x02\x00\x12\x00\x00\x00\x03\x00\x00\x00\x00\x00\x00",
-    )?;
-    body(
-        &rt,
+    ),
+    (
         "E12, version 1, no items, throttle 66816:",
         b"\x00\x00\x00\x00\x00\x00\x00\x01\x05\x00",
-    )?;
-    body(
-        &rt,
+    ),
+    (
         "Version 0, error 35, no items:",
         b"\x00\x23\x00\x00\x00\x00",
-    )?;
-    body(
-        &rt,
+    ),
+    (
         "Version 2, three rows, throttle 100:",
         b"\x00\x00\x00\x00\x00\x03\x00\x12\x00\x00\x00\x03\x00\x03\x00\x00\x00\x09\x00\x01\x00\x04\x00\x0c\x00\x00\x00\x64",
-    )?;
-    body(
-        &rt,
+    ),
+    (
         "Version 3, three rows, one with a tag, throttle 100, an own tag:",
         b"\x00\x00\x04\x00\x12\x00\x00\x00\x03\x00\x00\x03\x00\x00\x00\x09\x01\x07\x01\xaa\x00\x01\x00\x04\x00\x0c\x00\x00\x00\x00\x64\x01\x09\x00",
-    )?;
-    body(
-        &rt,
+    ),
+    (
         "Version 3, null items:",
         b"\x00\x00\x00\x00\x00\x00\x00\x00",
-    )?;
-    body(&rt, "Nothing at all:", b"")?;
-    written(&rt, 0, "Written at 0:")?;
-    written(&rt, 1, "Written at 1:")?;
-    written(&rt, 2, "Written at 2:")?;
-    written(&rt, 3, "Written at 3:")
+    ),
+    ("Nothing at all:", b""),
+];
+
+fn main(rt: HostRuntime) -> io::Result<()> {
+    for (name, msg) in BODIES {
+        print!(rt; "{name}")?;
+        body(&rt, msg)?;
+    }
+    for version in 0..4 {
+        written(&rt, version)?;
+    }
+    Ok(())
 }

@@ -1,35 +1,37 @@
 -- The walk over a request finds the field that the definition blames: in a partition, in a topic, in the body row, and in all of it.
 use mathlib.Core.Bool.{Bool, false, true}
-use mathlib.Core.List.{List, [], ◌∷◌}
+use mathlib.Core.List.{List, [], ◌++◌, ◌∷◌}
 use mathlib.Core.Logic.{◌≢◌}
-use mathlib.Core.Path.{◌∙◌, ◌≡◌, ap, refl, sym}
-use Prim.Native.Nat.{◌*◌, ◌+◌, ◌/◌, ◌<◌, ◌^◌, ◌≤◌, ℕ}
+use mathlib.Core.Path.{◌∙◌, ◌≡◌, ap, ap₂, refl, subst, sym}
+use Prim.Native.Nat.{◌*◌, ◌+◌, ◌-◌, ◌/◌, ◌<◌, ◌^◌, ◌≤◌, ℕ}
 use native.Mathlib.Nat.{add-zero}
 use native.Mathlib.Omega.{arith}
-use lib.Dec.{lit<}
+use lib.Dec.{eqb, lit<}
 use lib.ListN.{drop, get_or, length, take}
-use Rattle.layout.specs.Names.{Sought, blame, else, past, there}
+use Rattle.layout.specs.Names.{Sought, begun, blame, else, past, there}
 use Rattle.layout.specs.Primitives.{empty, fixed, never, w16, w32, w64}
 use Rattle.layout.specs.Reading.{nowhere}
 use Rattle.layout.specs.Rows.{Shape, end, field, level, number, optional, stands, text}
-use Rattle.layout.specs.Tables.{Tables, basic_of, chosen, count, pop, rows_of, slice, value_of, width}
+use Rattle.layout.specs.Tables.{Tables, basic_of, chosen, count, pop, rows_of, slice, sum, value_of, width}
 use Rattle.layout.specs.Write.{basic_fault, too_long, unless}
 use Rattle.layout.proofs.Chunks.{row_cell}
-use Rattle.layout.proofs.Tests.{le-false, le-true}
+use Rattle.layout.proofs.Tests.{by_test, le-false, le-true, of-ne, of_eq}
 use Rattle.primitives_put.specs.Answers.{within}
 use Rattle.primitives_put.proofs.Carried.{is_held}
 use Rattle.body_reading.proofs.Front.{Flat}
 use Rattle.body_writing.specs.Asked.{string_fault}
-use Rattle.body_writing.specs.Blames.{blame_at, items_blame, of_blamed, row_blame, rows_blame}
+use Rattle.body_writing.specs.Blames.{Blamed, blame_at, items_blame, of_blamed, row_blame, rows_blame}
 use Rattle.body_writing.specs.Writes.{row_fault, takes}
-use Rattle.body_writing.specs.declared.blames.Blamed.{Blamed}
+use Rattle.std.specs.Prelude.{Err, Ok}
+use Rattle.names.specs.declared.Found.{Found}
 use Rattle.body_writing.proofs.Blaming.{absent_blame, any_counts, array_blame, else_past, else_same, field_here, field_next, fields_of, joined_blame, number_here, number_next, only_here, only_past}
-use Rattle.body_writing.proofs.BlamingRows.{row_blame_lem}
+use Rattle.body_writing.proofs.BlamingRows.{Searching, row_blame_lem, searching_enough, searching_found, searching_more, searching_start}
 use Rattle.body_writing.proofs.Counts.{Cells, few_told}
 use Rattle.body_writing.proofs.Even.{string_shape}
 use Rattle.body_writing.proofs.Lent.{string_fault_lem}
 use Rattle.fetch_request.specs.Shapes.{lead_shape, level_shape, limits_shape, partition_shape, request_shape, topic_shape, topics_shape}
 use Rattle.fetch_request.proofs.Judgement.{wide_holds}
+use Rattle.fetch_request.proofs.Topics.{long, next, same_slice, same_takes}
 use Rattle.fetch_request.proofs.Walk.{topic_nest}
 
 -- ---- a partition
@@ -76,17 +78,18 @@ lent_none : (lent : List ℕ) (e : ℕ) (table c : List ℕ) → rows_blame lent
 unfolding rows_blame row_blame blame_at blame basic_fault value_of pop width basic_of
 lent_none lent e table c = refl
 
-module _ (lent : List ℕ) (e : ℕ) (some : e ≢ 0) (topics partitions : List ℕ) (enough : takes 3 2 topics ≤ length partitions) (row : ℕ) (c : List ℕ)
-    (x : List ℕ) (d : x ≡ slice lent (get_or topics 0 0, get_or topics 1 0)) (n : ℕ) (f : n ≡ string_fault x) where
+module _ (lent : List ℕ) (e : ℕ) (some : e ≢ 0) (topics partitions : List ℕ) (enough : takes 3 2 topics ≤ length partitions) (row : ℕ) (c : List ℕ) where
   in_parts : blame_at lent e topic_shape 1 ([] ∷ topics ∷ partitions ∷ []) row 0 c ≡ else (row_blame lent e string_shape row 0 c topics) (λ k. rows_blame lent e partition_shape 3 2 (take (takes 3 2 topics) partitions) k)
   unfolding too_long
   in_parts = row_blame_lem topic_nest lent e topics partitions (lit< tt) enough (λ k. some (sym k)) row c
 
+module _ (lent : List ℕ) (e : ℕ) (some : e ≢ 0) (topics partitions : List ℕ) (enough : takes 3 2 topics ≤ length partitions) (row : ℕ) (c : List ℕ)
+    (x : List ℕ) (d : x ≡ slice lent (get_or topics 0 0, get_or topics 1 0)) (n : ℕ) (f : n ≡ string_fault x) where
   name_fault_lem : n ≡ row_fault lent string_shape topics
   name_fault_lem = f ∙ ap string_fault d ∙ sym (string_fault_lem lent topics)
 
   pub in_name : n ≡ e → there row 0 ≡ blame_at lent e topic_shape 1 ([] ∷ topics ∷ partitions ∷ []) row 0 c
-  in_name g = ap (λ (s : Sought). else s (λ k. rows_blame lent e partition_shape 3 2 (take (takes 3 2 topics) partitions) k)) (only_here lent e (text (fixed w16 never)) row 0 c topics n name_fault_lem g) ∙ sym in_parts
+  in_name g = ap (λ (s : Sought). else s (λ k. rows_blame lent e partition_shape 3 2 (take (takes 3 2 topics) partitions) k)) (only_here lent e (text (fixed w16 never)) row 0 c topics n name_fault_lem g) ∙ sym (in_parts lent e some topics partitions enough row c)
 
   pub in_partitions_lem : n ≢ e → (k : ℕ) → k ≡ takes 3 2 topics → (s : Sought) → s ≡ rows_blame [] e partition_shape 3 2 (take k partitions) c → s ≡ blame_at lent e topic_shape 1 ([] ∷ topics ∷ partitions ∷ []) row 0 c
   in_partitions_lem g k q s w =
@@ -94,7 +97,7 @@ module _ (lent : List ℕ) (e : ℕ) (some : e ≢ 0) (topics partitions : List 
       ∙ ap (λ (j : ℕ). rows_blame [] e partition_shape 3 2 (take j partitions) c) q
       ∙ sym (lent_none lent e (take (takes 3 2 topics) partitions) c)
       ∙ ap (λ (s : Sought). else s (λ k. rows_blame lent e partition_shape 3 2 (take (takes 3 2 topics) partitions) k)) (only_past lent e (text (fixed w16 never)) row 0 c topics n name_fault_lem g)
-      ∙ sym in_parts
+      ∙ sym (in_parts lent e some topics partitions enough row c)
 
 -- ---- the body row
 
@@ -218,8 +221,42 @@ module _ (lent : List ℕ) (e : ℕ) (some : e ≢ 0) (replica wait least m l n 
       (λ t. else (any_counts [] e (front b i) (front_flat b i) nowhere 0 (front_cells replica wait least m l) x w c t) (λ d. items_blame lent e topic_shape (sym (few_told n few) t) 1 ([] ∷ topics ∷ partitions ∷ []) d))
       ∙ sym (request_blame lent e some replica wait least m l n topics partitions c b i)
 
-  pub in_numbers : (row f : ℕ) → x ≡ Blamed.Found row f → there row f ≡ blame_at lent e (request_shape b i) 0 (tables replica wait least m l n topics partitions) nowhere 0 c
-  in_numbers row f h = sym (ap then_topics h) ∙ in_two
+  pub in_numbers : (a : Found) → x ≡ Err a → there a.row a.field ≡ blame_at lent e (request_shape b i) 0 (tables replica wait least m l n topics partitions) nowhere 0 c
+  in_numbers a h = sym (ap then_topics h) ∙ in_two
 
-  pub in_topics_lem : x ≡ Blamed.Past → (s : Sought) → s ≡ items_blame lent e topic_shape n 1 ([] ∷ topics ∷ partitions ∷ []) c → s ≡ blame_at lent e (request_shape b i) 0 (tables replica wait least m l n topics partitions) nowhere 0 c
-  in_topics_lem h s g = g ∙ sym (ap then_topics h) ∙ in_two
+  pub in_topics_lem : (u : Unit {0}) → x ≡ Ok u → (s : Sought) → s ≡ items_blame lent e topic_shape n 1 ([] ∷ topics ∷ partitions ∷ []) c → s ≡ blame_at lent e (request_shape b i) 0 (tables replica wait least m l n topics partitions) nowhere 0 c
+  in_topics_lem u h s g = g ∙ sym (ap then_topics h) ∙ in_two
+
+-- ---- topics off the front of their table, one by one: a row alone has the first fault that it has with the rows after it
+
+module _ (lent : List ℕ) (e : ℕ) (topics partitions k₀ left : List ℕ) (d : left ≡ topics) (h : sum (takes 3 2) (rows_of 3 topics) ≤ length partitions) where
+  pub search_start : Searching topic_nest lent e topics partitions k₀ left partitions k₀
+  search_start = subst (λ (l : List ℕ). Searching topic_nest lent e topics partitions k₀ l partitions k₀) (sym d) (searching_start topic_nest lent e topics partitions k₀ h)
+
+module _ (left r after : List ℕ) (i : left ≡ r ++ after) (j : length r ≡ 3) (lent : List ℕ) (e : ℕ) (some : e ≢ 0) (topics partitions k₀ free k : List ℕ) (a : Searching topic_nest lent e topics partitions k₀ left free k) where
+  pub search_enough : takes 3 2 r ≤ length free
+  search_enough = omega (arith, same_takes left r after i j, searching_enough topic_nest lent e topics partitions k₀ a (long left r after i j))
+
+  same_name : (row : ℕ) (c : List ℕ) → row_blame lent e string_shape row 0 c r ≡ row_blame lent e string_shape row 0 c left
+  same_name row c =
+      let n : ℕ = string_fault (slice lent (get_or r 0 0, get_or r 1 0)) in
+      let f : n ≡ row_fault lent string_shape r = sym (string_fault_lem lent r) in
+      let g : n ≡ row_fault lent string_shape left = ap string_fault (sym (same_slice left r after i j lent)) ∙ sym (string_fault_lem lent left) in
+      by_test (eqb n e)
+      (λ t. sym (only_here lent e (text (fixed w16 never)) row 0 c r n f (of_eq n e t)) ∙ only_here lent e (text (fixed w16 never)) row 0 c left n g (of_eq n e t))
+      (λ t. sym (only_past lent e (text (fixed w16 never)) row 0 c r n f (of-ne n e t)) ∙ only_past lent e (text (fixed w16 never)) row 0 c left n g (of-ne n e t))
+
+  same_blame : (row : ℕ) (c : List ℕ) → blame_at lent e topic_shape 1 ([] ∷ r ∷ free ∷ []) row 0 c ≡ blame_at lent e topic_shape 1 ([] ∷ left ∷ free ∷ []) row 0 c
+  same_blame row c =
+      in_parts lent e some r free search_enough row c
+      ∙ ap₂ (λ (s : Sought) (n : ℕ). else s (λ k. rows_blame lent e partition_shape 3 2 (take n free) k)) (same_name row c) (sym (same_takes left r after i j))
+      ∙ sym (in_parts lent e some left free (omega (arith, search_enough, same_takes left r after i j)) row c)
+
+  module _ (row : ℕ) (g : row ≡ get_or k 1 0) (k₁ : List ℕ) (d : k₁ ≡ begun 1 k) (k₂ : List ℕ) (y : Blamed) (p : of_blamed k₂ y ≡ blame_at lent e topic_shape 1 ([] ∷ r ∷ free ∷ []) row 0 k₁) where
+    pub search_found : (b : Found) → y ≡ Err b → there b.row b.field ≡ items_blame lent e topic_shape (length topics / 3) 1 ([] ∷ topics ∷ partitions ∷ []) k₀
+    search_found = searching_found topic_nest lent e topics partitions k₀ a (long left r after i j) row g k₁ d k₂ y (p ∙ same_blame row k₁)
+
+    pub search_next : (u : Unit {0}) → y ≡ Ok u → (n : ℕ) → n ≡ takes 3 2 r → Searching topic_nest lent e topics partitions k₀ after (take (length free - n) (drop n free)) k₂
+    search_next u q n t =
+        subst (λ (l : List ℕ). Searching topic_nest lent e topics partitions k₀ l (take (length free - n) (drop n free)) k₂) (next left r after i j)
+        (searching_more topic_nest lent e topics partitions k₀ a (long left r after i j) row g k₁ d k₂ y (p ∙ same_blame row k₁) u q n (t ∙ sym (same_takes left r after i j)))

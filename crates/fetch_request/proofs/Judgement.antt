@@ -16,9 +16,10 @@ use Rattle.layout.specs.Write.{basic_fault, fault, or, too_long, unless}
 use Rattle.body_writing.specs.Writes.{fault_at, items_fault, refusal_of, row_fault, rows_fault, takes}
 use Rattle.body_writing.specs.Asked.{all_ranged, ranged, string_fault, tells, told, told_good}
 use Rattle.fetch_request.specs.declared.Own.{Own}
+use Rattle.std.specs.Prelude.{is_some, unwrap_or}
 use Rattle.fetch_request.specs.Shapes.{own_row, partition_shape, request_shape, topic_shape, topics_shape}
 use Rattle.layout.proofs.Proper.{both}
-use Rattle.layout.proofs.Tests.{le-true, lt-false, lt-true, of_eq, of_ge}
+use Rattle.layout.proofs.Tests.{le-true, lt-true, of_eq, of_ge}
 use Rattle.body_writing.proofs.Faults.{none_is, or_both, rows_clean, rows_only}
 use Rattle.body_writing.proofs.Nested.{row_fault_lem, sum_cells}
 use Rattle.body_writing.proofs.Writes.{any_fault, refusal_bad, refusal_good, refusal_none}
@@ -114,37 +115,37 @@ module _ (lent : List ℕ) (replica wait least k m k' m' c : ℕ) (topics partit
 
 module _ (lent : List ℕ) (c : ℕ) (topics partitions : List ℕ) (own : Own) where
   abbrev refusal : ℕ
-  refusal = refusal_of lent 2 (request_shape false false) (request_shape own.limited own.isolated) (own_row own c ∷ topics ∷ partitions ∷ [])
+  refusal = refusal_of lent 2 (request_shape false false) (request_shape (is_some own.largest) (is_some own.level)) (own_row own c ∷ topics ∷ partitions ∷ [])
 
   same_good : good (length lent) 2 (request_shape false false) (own_row own c ∷ topics ∷ partitions ∷ []) ≡ judged (length lent) c topics partitions
-  same_good = is_good (length lent) c topics partitions own.replica own.wait own.least 2 own.largest 2 own.level ∙ sym (is_good (length lent) c topics partitions 0 0 0 0 0 0 0)
+  same_good = is_good (length lent) c topics partitions own.replica own.wait own.least 2 (unwrap_or own.largest 0) 2 (unwrap_or own.level 0) ∙ sym (is_good (length lent) c topics partitions 0 0 0 0 0 0 0)
 
   -- no number is given: the tables are good
   pub fault_good : {e : ℕ} → e ≡ refusal → e ≡ 0 → judged (length lent) c topics partitions ≡ true
-  fault_good i h = sym same_good ∙ refusal_none lent 2 (request_shape false false) (request_shape own.limited own.isolated) (own_row own c ∷ topics ∷ partitions ∷ []) i h
+  fault_good i h = sym same_good ∙ refusal_none lent 2 (request_shape false false) (request_shape (is_some own.largest) (is_some own.level)) (own_row own c ∷ topics ∷ partitions ∷ []) i h
 
   module _ (g : Bool) (e : g ≡ judged (length lent) c topics partitions) where
     pub fault_bad : g ≡ false → 13 ≡ refusal
-    fault_bad = refusal_bad lent 2 (request_shape false false) (request_shape own.limited own.isolated) (own_row own c ∷ topics ∷ partitions ∷ []) (e ∙ sym same_good)
+    fault_bad = refusal_bad lent 2 (request_shape false false) (request_shape (is_some own.largest) (is_some own.level)) (own_row own c ∷ topics ∷ partitions ∷ []) (e ∙ sym same_good)
 
     module _ (h : g ≡ true) (x : Bool) (j : x ≡ (holds w32 own.replica && (holds w32 own.wait && holds w32 own.least))) where
       rows : count c ≡ length topics / 3
       rows = good_topics (length lent) c topics partitions (sym e ∙ h)
 
-      judge : (y : Bool) → y ≡ (cond own.limited (holds w32 own.largest) true && cond own.isolated (leb own.level 1) true) → (r : ℕ) →
+      judge : (y : Bool) → y ≡ (cond (is_some own.largest) (holds w32 (unwrap_or own.largest 0)) true && cond (is_some own.level) (leb (unwrap_or own.level 0) 1) true) → (r : ℕ) →
           r ≡ or (unless x 11) (or (unless y 11) (items_fault lent topic_shape (length topics / 3) 1 ([] ∷ topics ∷ partitions ∷ []))) → r ≡ refusal
       unfolding chosen
       judge y l r f =
-          refusal_good lent 2 (request_shape false false) (request_shape own.limited own.isolated) (own_row own c ∷ topics ∷ partitions ∷ []) (e ∙ sym same_good) h r
+          refusal_good lent 2 (request_shape false false) (request_shape (is_some own.largest) (is_some own.level)) (own_row own c ∷ topics ∷ partitions ∷ []) (e ∙ sym same_good) h r
           (f
           ∙ (λ t. or (unless (j t) 11) (or (unless (l t) 11) (items_fault lent topic_shape (sym rows t) 1 ([] ∷ topics ∷ partitions ∷ []))))
-          ∙ sym (is_fault lent own.replica own.wait own.least 2 own.largest 2 own.level c topics partitions own.limited own.isolated))
+          ∙ sym (is_fault lent own.replica own.wait own.least 2 (unwrap_or own.largest 0) 2 (unwrap_or own.level 0) c topics partitions (is_some own.largest) (is_some own.level)))
 
       pub fault_lead : x ≡ false → 11 ≡ refusal
       unfolding unless or
       fault_lead k = judge _ refl 11 (sym (rw k))
 
-      module _ (k : x ≡ true) (y : Bool) (l : y ≡ (cond own.limited (holds w32 own.largest) true && cond own.isolated (leb own.level 1) true)) where
+      module _ (k : x ≡ true) (y : Bool) (l : y ≡ (cond (is_some own.largest) (holds w32 (unwrap_or own.largest 0)) true && cond (is_some own.level) (leb (unwrap_or own.level 0) 1) true)) where
         pub fault_limits : y ≡ false → 11 ≡ refusal
         unfolding unless or
         fault_limits m = judge y l 11 (sym (rw (k, m)))
@@ -167,17 +168,20 @@ wide_holds n h = go (ltb n (2 ^ 63)) refl
 abbrev pub clean : List ℕ → Bool
 clean r = eqb (row_fault [] partition_shape r) 0
 
+-- a row is judged by its first and its third cell
+pub row_told : (r : List ℕ) → get_or r 1 0 < 2 ^ 64 → (b : Bool) → b ≡ (holds w32 (get_or r 0 0) && holds w32 (get_or r 2 0)) → b ≡ clean r
+row_told r h b e = e ∙ sym (ap (λ (n : ℕ). eqb n 0) (numbers_fault [] w32 w64 w32 r) ∙ none_is _ 10 ∙ rw (wide_holds (get_or r 1 0) h) refl)
+
 module _ (partitions : List ℕ) (cells : Cells partitions) where
   -- as the table has them
   module _ (i : ℕ) (h : i < length partitions / 3) where
     abbrev row : List ℕ
     row = get_or (rows_of 3 partitions) i []
 
-    pub partition_told : (b : Bool) → b ≡ (holds w32 (get_or partitions (i * 3) 0) && holds w32 (get_or partitions (i * 3 + 2) 0)) → b ≡ clean row
+    partition_told : (b : Bool) → b ≡ (holds w32 (get_or partitions (i * 3) 0) && holds w32 (get_or partitions (i * 3 + 2) 0)) → b ≡ clean row
     partition_told b e =
-        e
-        ∙ sym (λ t. holds w32 ((row_cell 3 partitions i h 0 (lit< tt) ∙ ap (λ (k : ℕ). get_or partitions k 0) (add-zero (i * 3))) t) && holds w32 (row_cell 3 partitions i h 2 (lit< tt) t))
-        ∙ sym (ap (λ (n : ℕ). eqb n 0) (numbers_fault [] w32 w64 w32 row) ∙ none_is _ 10 ∙ rw (wide_holds (get_or row 1 0) (omega (arith, row_cell 3 partitions i h 1 (lit< tt), cells (i * 3 + 1)))) refl)
+        row_told row (omega (arith, row_cell 3 partitions i h 1 (lit< tt), cells (i * 3 + 1))) b
+        (e ∙ sym (λ t. holds w32 ((row_cell 3 partitions i h 0 (lit< tt) ∙ ap (λ (k : ℕ). get_or partitions k 0) (add-zero (i * 3))) t) && holds w32 (row_cell 3 partitions i h 2 (lit< tt) t)))
 
     -- what is small fits
     small_held : (n : ℕ) → ltb n 2147483648 ≡ true → holds w32 n ≡ true
@@ -196,21 +200,20 @@ module _ (partitions : List ℕ) (cells : Cells partitions) where
 pub sure : {a x : Bool} → a ≡ (a && x) → a ≡ true → a ≡ x
 sure {a} {x} e h = e ∙ ap (λ (t : Bool). t && x) h
 
-module _ {partitions : List ℕ} (t : ℕ) (g : Judged clean 3 partitions (t * 2)) where
-  pub small_last : (a : Bool) → a ≡ (a && clean (get_or (rows_of 3 partitions) (t * 2) [])) → length partitions / 3 / 2 ≤ t → t * 2 < length partitions / 3 → a ≡ (a && eqb (rows_fault [] partition_shape 3 partitions) 0)
-  small_last false e l h = refl
-  small_last true e l h = odd_last g e l h ∙ rows_clean [] partition_shape 3 partitions
+-- the rows of all turns have no fault
+module _ {partitions : List ℕ} (t : ℕ) (i : t ≡ length partitions / 3 / 2) (g : Judged clean 3 partitions (t * 2)) where
+  abbrev last : ℕ
+  last = length partitions / 3 / 2 * 2
 
-  pub small_end : length partitions / 3 ≤ t * 2 → true ≡ eqb (rows_fault [] partition_shape 3 partitions) 0
-  small_end h = judged_end clean 3 partitions (t * 2) g h ∙ rows_clean [] partition_shape 3 partitions
+  settled : Judged clean 3 partitions last
+  settled = rw i at g
 
--- two tests whether a number is small, in turn
-module _ (m n : ℕ) where
-  pub small_first : 2147483648 ≤ m → false ≡ (ltb m 2147483648 && ltb n 2147483648)
-  small_first h = sym (rw (lt-false m 2147483648 h))
+  pub small_last : (a : Bool) → a ≡ (a && clean (get_or (rows_of 3 partitions) last [])) → last < length partitions / 3 → a ≡ (a && eqb (rows_fault [] partition_shape 3 partitions) 0)
+  small_last false e h = refl
+  small_last true e h = odd_last {t = length partitions / 3 / 2} settled e (omega arith) h ∙ rows_clean [] partition_shape 3 partitions
 
-  pub small_second : m < 2147483648 → ltb n 2147483648 ≡ (ltb m 2147483648 && ltb n 2147483648)
-  small_second h = sym (rw (lt-true m 2147483648 h))
+  pub small_end : length partitions / 3 ≤ last → true ≡ eqb (rows_fault [] partition_shape 3 partitions) 0
+  small_end h = judged_end clean 3 partitions last settled h ∙ rows_clean [] partition_shape 3 partitions
 
 -- no lent byte is looked at
 lent_none : (lent table : List ℕ) → rows_fault lent partition_shape 3 table ≡ rows_fault [] partition_shape 3 table
@@ -229,7 +232,7 @@ module _ (lent topics partitions : List ℕ) (enough : takes 3 2 topics ≤ leng
   abbrev taken : ℕ → ℕ
   taken k = rows_fault [] partition_shape 3 (take k partitions)
 
-  in_parts : topic_fault ≡ or (string_fault (slice lent (get_or topics 0 0, get_or topics 1 0))) (taken (takes 3 2 topics))
+  pub in_parts : topic_fault ≡ or (string_fault (slice lent (get_or topics 0 0, get_or topics 1 0))) (taken (takes 3 2 topics))
   unfolding too_long or
   in_parts =
       row_fault_lem lent (fixed w32 empty) partition_shape tt 3 three string_shape tt 2 named topics partitions (lit< tt) enough

@@ -2,6 +2,8 @@
 pub mod Walk
 -- 13, the faults of the own row, 11 and 7 of a topic, and numbers that fit
 pub mod Judgement
+-- topics off the front of their table
+pub mod Topics
 -- the most bytes that a request can have
 pub mod Most
 -- the field that is blamed

@@ -15,6 +15,7 @@ use Rattle.primitives_put.specs.Step.{cap}
 use Rattle.body_writing.specs.Writes.{bytes_at, items_bytes, takes}
 use Rattle.body_writing.proofs.Nested.{one, takes_first}
 use Rattle.fetch_request.specs.declared.Own.{Own}
+use Rattle.std.specs.Prelude.{is_some, unwrap_or}
 use Rattle.fetch_request.specs.Shapes.{own_row, request_shape, topic_shape}
 use Rattle.fetch_request.proofs.Walk.{lead_are, lead_bytes, limits_are, limits_bytes, topic_wide, topic_nest, topics_bytes}
 
@@ -58,35 +59,35 @@ module _ (lent topics partitions : List ℕ) (own : Own) (h : sum (takes 3 2) (r
   unfolding rows_of
   topics_most = omega (arith, each_most lent (length lent + 6) (omega arith) (length topics / 3) topics partitions h, mul-le-mul_right {m = length topics / 3} {n = length topics} (length lent + 6) (div-le_self (length topics) 3))
 
-  request_is : bytes_at lent (request_shape own.limited own.isolated) 0 (own_row own n ∷ topics ∷ partitions ∷ [])
-      ≡ (bytes 4 own.replica ++ (bytes 4 own.wait ++ bytes 4 own.least)) ++ ((cond own.limited (bytes 4 own.largest) [] ++ cond own.isolated (bytes 1 own.level) []) ++ (bytes 4 n ++ items_bytes lent topic_shape n 1 ([] ∷ topics ∷ partitions ∷ [])))
+  request_is : bytes_at lent (request_shape (is_some own.largest) (is_some own.level)) 0 (own_row own n ∷ topics ∷ partitions ∷ [])
+      ≡ (bytes 4 own.replica ++ (bytes 4 own.wait ++ bytes 4 own.least)) ++ ((cond (is_some own.largest) (bytes 4 (unwrap_or own.largest 0)) [] ++ cond (is_some own.level) (bytes 1 (unwrap_or own.level 0)) []) ++ (bytes 4 n ++ items_bytes lent topic_shape n 1 ([] ∷ topics ∷ partitions ∷ [])))
   unfolding length_bytes
   request_is =
-      lead_bytes lent own.limited own.isolated own.replica own.wait own.least (2 ∷ own.largest ∷ 2 ∷ own.level ∷ n ∷ []) topics partitions
+      lead_bytes lent (is_some own.largest) (is_some own.level) own.replica own.wait own.least (2 ∷ unwrap_or own.largest 0 ∷ 2 ∷ unwrap_or own.level 0 ∷ n ∷ []) topics partitions
       ∙ ap₂ (λ (x y : List ℕ). x ++ y) (sym (lead_are own.replica own.wait own.least))
-      (limits_bytes lent own.limited own.isolated 2 own.largest 2 own.level n topics partitions
-      ∙ ap₂ (λ (x y : List ℕ). x ++ y) (sym (limits_are own.limited own.isolated own.largest own.level)) (topics_bytes lent n topics partitions (omega arith)))
+      (limits_bytes lent (is_some own.largest) (is_some own.level) 2 (unwrap_or own.largest 0) 2 (unwrap_or own.level 0) n topics partitions
+      ∙ ap₂ (λ (x y : List ℕ). x ++ y) (sym (limits_are (is_some own.largest) (is_some own.level) (unwrap_or own.largest 0) (unwrap_or own.level 0))) (topics_bytes lent n topics partitions (omega arith)))
 
-  request_most : length (bytes_at lent (request_shape own.limited own.isolated) 0 (own_row own n ∷ topics ∷ partitions ∷ [])) ≤ length topics * (length lent + 6) + length partitions * 16 + 21
+  request_most : length (bytes_at lent (request_shape (is_some own.largest) (is_some own.level)) 0 (own_row own n ∷ topics ∷ partitions ∷ [])) ≤ length topics * (length lent + 6) + length partitions * 16 + 21
   request_most =
       omega (
         arith,
         topics_most,
         ap length request_is,
-        length-append (bytes 4 own.replica ++ (bytes 4 own.wait ++ bytes 4 own.least)) ((cond own.limited (bytes 4 own.largest) [] ++ cond own.isolated (bytes 1 own.level) []) ++ (bytes 4 n ++ items_bytes lent topic_shape n 1 ([] ∷ topics ∷ partitions ∷ []))),
+        length-append (bytes 4 own.replica ++ (bytes 4 own.wait ++ bytes 4 own.least)) ((cond (is_some own.largest) (bytes 4 (unwrap_or own.largest 0)) [] ++ cond (is_some own.level) (bytes 1 (unwrap_or own.level 0)) []) ++ (bytes 4 n ++ items_bytes lent topic_shape n 1 ([] ∷ topics ∷ partitions ∷ []))),
         length-append (bytes 4 own.replica) (bytes 4 own.wait ++ bytes 4 own.least),
         length-append (bytes 4 own.wait) (bytes 4 own.least),
         length_bytes_lem 4 own.replica,
         length_bytes_lem 4 own.wait,
         length_bytes_lem 4 own.least,
-        length-append (cond own.limited (bytes 4 own.largest) [] ++ cond own.isolated (bytes 1 own.level) []) (bytes 4 n ++ items_bytes lent topic_shape n 1 ([] ∷ topics ∷ partitions ∷ [])),
-        length-append (cond own.limited (bytes 4 own.largest) []) (cond own.isolated (bytes 1 own.level) []),
-        if_most own.limited 4 own.largest,
-        if_most own.isolated 1 own.level,
+        length-append (cond (is_some own.largest) (bytes 4 (unwrap_or own.largest 0)) [] ++ cond (is_some own.level) (bytes 1 (unwrap_or own.level 0)) []) (bytes 4 n ++ items_bytes lent topic_shape n 1 ([] ∷ topics ∷ partitions ∷ [])),
+        length-append (cond (is_some own.largest) (bytes 4 (unwrap_or own.largest 0)) []) (cond (is_some own.level) (bytes 1 (unwrap_or own.level 0)) []),
+        if_most (is_some own.largest) 4 (unwrap_or own.largest 0),
+        if_most (is_some own.level) 1 (unwrap_or own.level 0),
         length-append (bytes 4 n) (items_bytes lent topic_shape n 1 ([] ∷ topics ∷ partitions ∷ [])),
         length_bytes_lem 4 n,
       )
 
   -- r is told to be at least as many, up to the limit, and fits in m
-  pub most_told : {r m : ℕ} → cap (length topics * (length lent + 6) + length partitions * 16 + 21) ≤ r → r ≤ most → r ≤ m → length (bytes_at lent (request_shape own.limited own.isolated) 0 (own_row own n ∷ topics ∷ partitions ∷ [])) ≤ m
+  pub most_told : {r m : ℕ} → cap (length topics * (length lent + 6) + length partitions * 16 + 21) ≤ r → r ≤ most → r ≤ m → length (bytes_at lent (request_shape (is_some own.largest) (is_some own.level)) 0 (own_row own n ∷ topics ∷ partitions ∷ [])) ≤ m
   most_told k l f = omega (arith, request_most, k, l, f)

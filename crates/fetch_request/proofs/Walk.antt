@@ -11,12 +11,12 @@ use lib.Seq.{length-take-le}
 use borrow.Rule.Slice.PartMut.{mid_of, put_mid}
 use Rattle.layout.specs.Primitives.{bytes, empty, fixed, length_bytes, w32, w64}
 use Rattle.layout.specs.Rows.{end, stands}
-use Rattle.layout.specs.Tables.{basic_of, chosen, count, pop, row_width, rows_of, slice, value_of, width}
+use Rattle.layout.specs.Tables.{basic_of, chosen, pop, row_width, rows_of, slice, value_of, width}
 use Rattle.layout.specs.Write.{write, write_basic}
 use Rattle.layout.proofs.Back.{length_bytes_lem}
 use Rattle.primitives_put.specs.Step.{Capped, cap}
 use Rattle.body_writing.specs.Writes.{bytes_at, counted_bytes, items_bytes, row_bytes, rows_bytes, takes}
-use Rattle.primitives_put.proofs.Capped.{capped, capped_as, capped_behind}
+use Rattle.primitives_put.proofs.Capped.{capped, capped_as, capped_behind, step_nothing}
 use Rattle.layout.proofs.Chunks.{row_cell}
 use Rattle.body_writing.proofs.Nested.{Nest, row_bytes_lem}
 use Rattle.body_writing.proofs.Writes.{any_bytes, joined_bytes}
@@ -24,6 +24,7 @@ use Rattle.primitives_put.specs.declared.Form.{Form}
 use Rattle.primitives_put.specs.Put.{Put, behind_length, size_of}
 use Rattle.body_writing.proofs.Even.{Even, counted_put, even_end, even_left, even_more, numbers_bytes, numbers_wide, rows_wide, string_bytes, string_shape, three_put}
 use Rattle.primitives_put.proofs.Stored.{put_step}
+use Rattle.std.specs.Prelude.{Option, Some, None, is_some, unwrap_or}
 use Rattle.body_writing.proofs.Counts.{few_told}
 use Rattle.fetch_request.specs.Shapes.{lead_shape, limits_shape, partition_shape, request_shape, topic_shape, topics_shape}
 
@@ -97,7 +98,7 @@ unfolding counted_bytes rows_bytes row_bytes bytes_at write write_basic value_of
 plain_bytes lent table = refl
 
 module _ (lent topics partitions x : List ℕ) (j : ℕ) (i : j ≡ takes 3 2 topics) (s : x ≡ slice lent (get_or topics 0 0, get_or topics 1 0)) (l : j ≤ length partitions) where
-  topic_as : behind_length (size_of Form.Int16) x ++ counted_bytes [] partition_shape (fixed w32 empty) 3 (take j partitions) ≡ bytes_at lent topic_shape 1 ([] ∷ topics ∷ partitions ∷ [])
+  pub topic_as : behind_length (size_of Form.Int16) x ++ counted_bytes [] partition_shape (fixed w32 empty) 3 (take j partitions) ≡ bytes_at lent topic_shape 1 ([] ∷ topics ∷ partitions ∷ [])
   topic_as =
       ap₂ (λ (y : List ℕ) (n : ℕ). behind_length (size_of Form.Int16) y ++ counted_bytes [] partition_shape (fixed w32 empty) 3 (take n partitions)) s i
       ∙ sym (row_bytes_lem lent (fixed w32 empty) partition_shape tt 3 three string_shape tt 2 named topics partitions (lit< tt) (omega (arith, i)) refl
@@ -132,6 +133,14 @@ limits_bytes lent false false k m k' m' c topics partitions = joined_bytes lent 
 -- n is a number of rows
 pub topics_bytes : (lent : List ℕ) (n : ℕ) (topics partitions : List ℕ) → n < 2 ^ 63 → bytes_at lent topics_shape 0 ((n ∷ []) ∷ topics ∷ partitions ∷ []) ≡ length_bytes (fixed w32 empty) n ++ items_bytes lent topic_shape n 1 ([] ∷ topics ∷ partitions ∷ [])
 topics_bytes lent n topics partitions h = any_bytes lent (fixed w32 empty) topic_shape 0 1 ((n ∷ []) ∷ topics ∷ partitions ∷ []) refl ∙ ap (λ (j : ℕ). length_bytes (fixed w32 empty) j ++ items_bytes lent topic_shape j 1 ([] ∷ topics ∷ partitions ∷ [])) (few_told n h)
+
+-- a number, where the version has it
+module _ (o : Option ℕ) (k : ℕ) where
+  pub number_there : {n : ℕ} → o ≡ Some n → {d d' : List ℕ} {m : ℕ} → Put (bytes k n) d m d' → Capped (cond (is_some o) (bytes k (unwrap_or o 0)) []) d m d'
+  number_there h p = rw h (capped (put_step p))
+
+  pub number_lacking : o ≡ None → (d : List ℕ) → Capped (cond (is_some o) (bytes k (unwrap_or o 0)) []) d 0 d
+  number_lacking h d = rw h (capped (step_nothing d))
 
 -- two numbers, where the version has them; unset they are written like a number given
 pub limits_are : (b i : Bool) (largest level : ℕ) → cond b (bytes 4 largest) [] ++ cond i (bytes 1 level) [] ≡ row_bytes [] (limits_shape b i end) (2 ∷ largest ∷ 2 ∷ level ∷ [])

@@ -1,5 +1,5 @@
 -- The request's layout by what sets the versions apart: `b`, it has max bytes (from 3 on); `i`, it has an isolation level (in 4). And its own row as it is written, with nothing unset.
-use Rattle.std.specs.Prelude.{Bool, List, [], ◌∷◌, ℕ}
+use Rattle.std.specs.Prelude.{Bool, List, [], ◌∷◌, ℕ, unwrap_or}
 use Rattle.layout.specs.Primitives.{empty, fixed, never, w16, w32, w64}
 use Rattle.layout.specs.Rows.{Shape, array, end, field, level, number, optional, stands, text}
 use Rattle.fetch_request.specs.declared.Own.{Own}
@@ -28,6 +28,6 @@ lead_shape r = field (number w32) (field (number w32) (field (number w32) r))
 abbrev pub request_shape : Bool → Bool → Shape
 request_shape b i = lead_shape (limits_shape b i topics_shape)
 
--- n is the number of topics
+-- n is the number of topics; a number that the version lacks is not written, whatever stands for it
 abbrev pub own_row : Own → ℕ → List ℕ
-own_row x n = x.replica ∷ x.wait ∷ x.least ∷ 2 ∷ x.largest ∷ 2 ∷ x.level ∷ n ∷ []
+own_row x n = x.replica ∷ x.wait ∷ x.least ∷ 2 ∷ unwrap_or x.largest 0 ∷ 2 ∷ unwrap_or x.level 0 ∷ n ∷ []

@@ -1,6 +1,6 @@
 // What is refused of a Fetch request before a byte is written: tables that do not add up, names outside the lent bytes,
 // and then in field order numbers too wide, names too long and names that are not text.
-ghost use Rattle.std.specs.Prelude.{◌&&◌, cond, false, true, ◌≡◌, [], ◌∷◌, get_or, length, ◌/◌, ◌<◌, ◌^◌, ◌≤◌, eqb, leb, ltb};
+ghost use Rattle.std.specs.Prelude.{◌&&◌, cond, false, true, ◌≡◌, [], ◌∷◌, get_or, length, ◌/◌, ◌<◌, ◌^◌, ◌≤◌, eqb, is_some, leb, ltb, unwrap_or};
 ghost use Rattle.layout.specs.Primitives.{holds, w32};
 ghost use Rattle.layout.specs.Tables.{good, rows_of, sum};
 ghost use Rattle.body_writing.specs.Writes.{fault_at, items_fault, refusal_of, row_fault, rows_fault, takes};
@@ -27,51 +27,45 @@ fn is_good(size: usize, count: u64, topics: &[u64], partitions: &[u64]) -> bool
 
 // ---- 11: the own row's numbers
 
+#[tactic(auto, unfolding(primitives_put::specs::Answers::within, layout::specs::Primitives::holds))]
 fn both_fit(m: u64, n: u64) -> bool
     ensures { result ≡ (holds w32 m && holds w32 n) }
 {
-    if !fits(m, 2147483648) {
-        return false;
-    }
-    fits(n, 2147483648)
+    fits(m, 2147483648) && fits(n, 2147483648)
 }
 
+#[tactic(auto, unfolding(primitives_put::specs::Answers::within, layout::specs::Primitives::holds))]
 fn lead_fits(replica: u64, wait: u64, least: u64) -> bool
     ensures { result ≡ (holds w32 replica && (holds w32 wait && holds w32 least)) }
 {
-    if !fits(replica, 2147483648) {
-        return false;
-    }
-    both_fit(wait, least)
+    fits(replica, 2147483648) && both_fit(wait, least)
 }
 
 // Max bytes, where the version has them.
-fn largest_fits(b: bool, largest: u64) -> bool
-    ensures { result ≡ cond b (holds w32 largest) true }
+#[tactic(auto, unfolding(primitives_put::specs::Answers::within, layout::specs::Primitives::holds))]
+fn largest_fits(largest: Option<u64>) -> bool
+    ensures { result ≡ cond (is_some largest) (holds w32 (unwrap_or largest 0)) true }
 {
-    if b {
-        return fits(largest, 2147483648);
+    match largest {
+        Some(n) => fits(n, 2147483648),
+        None => true,
     }
-    true
 }
 
 // An isolation level is 0 or 1.
-fn level_fits(i: bool, level: u64) -> bool
-    ensures { result ≡ cond i (leb level 1) true }
+fn level_fits(level: Option<u64>) -> bool
+    ensures { result ≡ cond (is_some level) (leb (unwrap_or level 0) 1) true }
 {
-    if i {
-        return level <= 1;
+    match level {
+        Some(n) => n <= 1,
+        None => true,
     }
-    true
 }
 
-fn limits_fit(b: bool, i: bool, largest: u64, level: u64) -> bool
-    ensures { result ≡ (cond b (holds w32 largest) true && cond i (leb level 1) true) }
+fn limits_fit(largest: Option<u64>, level: Option<u64>) -> bool
+    ensures { result ≡ (cond (is_some largest) (holds w32 (unwrap_or largest 0)) true && cond (is_some level) (leb (unwrap_or level 0) 1) true) }
 {
-    if !largest_fits(b, largest) {
-        return false;
-    }
-    level_fits(i, level)
+    largest_fits(largest) && level_fits(level)
 }
 
 // ---- 11 and 7: topic by topic
@@ -80,10 +74,7 @@ fn limits_fit(b: bool, i: bool, largest: u64, level: u64) -> bool
 fn both_small(m: u64, n: u64) -> bool
     ensures { result ≡ (ltb m 2147483648 && ltb n 2147483648) }
 {
-    if 2147483648 <= m {
-        return false;
-    }
-    n < 2147483648
+    m < 2147483648 && n < 2147483648
 }
 
 // A row that it says to be small has no fault; of others it says nothing.
@@ -99,34 +90,28 @@ fn all_small(partitions: &[u64]) -> bool
     ensures { result ≡ (result && eqb (rows_fault [] partition_shape 3 partitions.now) 0) }
 {
     let n = partitions.len() / 3;
-    let mut turn: usize = 0;
-    while turn < n / 2 {
+    for turn in 0..n / 2 {
         let a = is_small(partitions, turn * 2);
         let b = is_small(partitions, turn * 2 + 1);
-        if !a {
+        if !a || !b {
             return false;
         }
-        if !b {
-            return false;
-        }
-        turn = turn + 1;
     }
-    if turn * 2 < n {
-        return is_small(partitions, turn * 2);
+    let last = n / 2 * 2;
+    if last < n {
+        return is_small(partitions, last);
     }
     true
 }
 
+// Not one function with `all_small`, which is no plainer: it takes two rows a turn, and says nothing of a row that it does not find small.
 fn all_fit(partitions: &[u64]) -> bool
     ensures { result ≡ eqb (rows_fault [] partition_shape 3 partitions.now) 0 }
 {
-    let n = partitions.len() / 3;
-    let mut i: usize = 0;
-    while i < n {
-        if !both_fit(partitions[i * 3], partitions[i * 3 + 2]) {
+    for row in partitions.chunks_exact(3) {
+        if !both_fit(row[0], row[2]) {
             return false;
         }
-        i = i + 1;
     }
     true
 }
@@ -170,23 +155,21 @@ fn topics_fault(lent: &[u8], topics: &[u64], partitions: &[u64]) -> u8
     requires { sum (takes 3 2) (rows_of 3 topics.now) ≤ length partitions.now }
     ensures { result ≡ items_fault lent.now topic_shape (length topics.now / 3) 1 ([] ∷ topics.now ∷ partitions.now ∷ []) }
 {
-    let mut left = topics;
     let mut free = partitions;
-    while 3 <= left.len() {
-        let e = topic_fault(lent, left, free);
+    for row in topics.chunks_exact(3) {
+        let e = topic_fault(lent, row, free);
         if e != 0 {
             return e;
         }
-        let k = cells(left);
+        let k = cells(row);
         free = &free[k..];
-        left = &left[3..];
     }
     0
 }
 
 // 13, 11, 7, or 0 for none of them.
 pub(crate) fn refusal(own: Own, count: u64, lent: &[u8], topics: &[u64], partitions: &[u64]) -> u8
-    ensures { result ≡ refusal_of lent.now 2 (request_shape false false) (request_shape own.limited own.isolated) (own_row own count ∷ topics.now ∷ partitions.now ∷ []) }
+    ensures { result ≡ refusal_of lent.now 2 (request_shape false false) (request_shape (is_some own.largest) (is_some own.level)) (own_row own count ∷ topics.now ∷ partitions.now ∷ []) }
 {
     if !is_good(lent.len(), count, topics, partitions) {
         return BAD_TABLES;
@@ -194,7 +177,7 @@ pub(crate) fn refusal(own: Own, count: u64, lent: &[u8], topics: &[u64], partiti
     if !lead_fits(own.replica, own.wait, own.least) {
         return TOO_WIDE;
     }
-    if !limits_fit(own.limited, own.isolated, own.largest, own.level) {
+    if !limits_fit(own.largest, own.level) {
         return TOO_WIDE;
     }
     topics_fault(lent, topics, partitions)

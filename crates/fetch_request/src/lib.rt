@@ -2,8 +2,6 @@
 // Numbers are cells, as in the tables: 64 bits, two's complement.
 #![tactic(auto)]
 
-use body_reading::versioned::Versioned;
-
 mod judge;
 mod naming;
 mod writing;
@@ -11,24 +9,22 @@ mod writing;
 pub use writing::write;
 
 // The own row of a request. The most bytes of an answer (from version 3 on) and the isolation level (in 4) may be left unset.
-#[derive(Drop)]
+#[derive(Clone, Copy)]
 pub struct RequestBody {
     pub replica: u64,
     pub max_wait: u64,
     pub min_bytes: u64,
-    pub max_bytes: Versioned,
-    pub isolation: Versioned,
+    pub max_bytes: Option<u64>,
+    pub isolation: Option<u64>,
     pub topics: u64,
 }
 
-// The numbers in front of the topics as they are written, none of them unset. `limited`: the version has max bytes; `isolated`: it has an isolation level.
+// The numbers in front of the topics as they are written, none of them unset. Max bytes and the isolation level are `None` where the version lacks them.
 #[derive(Clone, Copy)]
 pub(crate) struct Own {
-    pub limited: bool,
-    pub isolated: bool,
     pub replica: u64,
     pub wait: u64,
     pub least: u64,
-    pub largest: u64,
-    pub level: u64,
+    pub largest: Option<u64>,
+    pub level: Option<u64>,
 }

@@ -1,5 +1,5 @@
 // The field of a Fetch request that a refusal names: of its body row, of a topic, or of a topic's partition. Rows are counted over their whole table.
-ghost use Rattle.std.specs.Prelude.{[], ◌∷◌, ◌≢◌, ◌≡◌, ◌/◌, ◌<◌, ◌≤◌, get_or, length};
+ghost use Rattle.std.specs.Prelude.{is_some, unwrap_or, [], ◌∷◌, ◌≢◌, ◌≡◌, ◌/◌, ◌<◌, ◌≤◌, get_or, length};
 ghost use Rattle.layout.specs.Answers.{meant, none_yet};
 ghost use Rattle.layout.specs.Names.{name_fault};
 ghost use Rattle.layout.specs.Reading.{nowhere};
@@ -17,7 +17,7 @@ use crate::Own;
 use crate::judge::cells;
 use body_writing::blames::{Blamed, blamed_by};
 use body_writing::ranges::{number_fault, part, string_fault};
-use names::{FETCH_REQUEST, Named, begin, is_fieldless, without_field};
+use names::{FETCH_REQUEST, Found, Named, begin, is_fieldless, without_field};
 use primitives::{MINUS_ONE, Refusal, TOO_WIDE};
 
 const TOPICS: usize = 1;
@@ -35,28 +35,23 @@ fn partition(e: u8, table: &[u64], i: usize, row: u64) -> Blamed
     ensures { of_blamed [] result ≡ row_blame [] e partition_shape row 0 [] (get_or (rows_of 3 table.now) i []) }
 {
     if number_fault(table[i * 3], HALF) == e {
-        return Blamed::Found { row, field: 0 };
+        return Err(Found { row, field: 0 });
     }
     if number_fault(table[i * 3 + 2], HALF) == e {
-        return Blamed::Found { row, field: 2 };
+        return Err(Found { row, field: 2 });
     }
-    Blamed::Past
+    Ok(())
 }
 
 fn all_partitions(e: u8, table: &[u64], begun: &mut [u64]) -> Blamed
     requires { e ≢ 0 }
     ensures { of_blamed begun.new result ≡ rows_blame [] e partition_shape 3 2 table.now begun.old }
 {
-    let n = table.len() / 3;
-    let mut i: usize = 0;
-    while i < n {
+    for i in 0..table.len() / 3 {
         let row = begin(begun, PARTITIONS);
-        match partition(e, table, i, row) {
-            Blamed::Past => i = i + 1,
-            Blamed::Found { row: r, field: f } => return Blamed::Found { row: r, field: f },
-        }
+        partition(e, table, i, row)?;
     }
-    Blamed::Past
+    Ok(())
 }
 
 // ---- topics
@@ -74,7 +69,7 @@ fn topic(
     ensures { of_blamed begun.new result ≡ blame_at lent.now e topic_shape 1 ([] ∷ topics.now ∷ partitions.now ∷ []) row 0 begun.old }
 {
     if string_fault(part(lent, topics[0], topics[1])) == e {
-        return Blamed::Found { row, field: 0 };
+        return Err(Found { row, field: 0 });
     }
     let k = cells(topics);
     all_partitions(e, &partitions[..k], begun)
@@ -84,20 +79,14 @@ fn all_topics(e: u8, lent: &[u8], topics: &[u64], partitions: &[u64], begun: &mu
     requires { (e ≢ 0) × (sum (takes 3 2) (rows_of 3 topics.now) ≤ length partitions.now) }
     ensures { of_blamed begun.new result ≡ items_blame lent.now e topic_shape (length topics.now / 3) 1 ([] ∷ topics.now ∷ partitions.now ∷ []) begun.old }
 {
-    let mut left = topics;
     let mut free = partitions;
-    while 3 <= left.len() {
+    for asked in topics.chunks_exact(3) {
         let row = begin(begun, TOPICS);
-        match topic(e, lent, left, free, row, begun) {
-            Blamed::Past => {
-                let k = cells(left);
-                free = &free[k..];
-                left = &left[3..];
-            }
-            Blamed::Found { row: r, field: f } => return Blamed::Found { row: r, field: f },
-        }
+        topic(e, lent, asked, free, row, begun)?;
+        let k = cells(asked);
+        free = &free[k..];
     }
-    Blamed::Past
+    Ok(())
 }
 
 // ---- the body row
@@ -113,58 +102,58 @@ fn level_fault(n: u64) -> u8
 }
 
 // The isolation level, field `field` where the version has one.
-fn isolation(e: u8, isolated: bool, level: u64, field: u64) -> Blamed
-    ensures { of_blamed [] result ≡ row_blame [] e (level_shape isolated end) nowhere field [] (2 ∷ level ∷ []) }
+fn isolation(e: u8, level: Option<u64>, field: u64) -> Blamed
+    ensures { of_blamed [] result ≡ row_blame [] e (level_shape (is_some level) end) nowhere field [] (2 ∷ unwrap_or level 0 ∷ []) }
 {
-    if !isolated {
-        return Blamed::Past;
-    }
-    if level_fault(level) == e {
-        return Blamed::Found {
+    let Some(n) = level else {
+        return Ok(());
+    };
+    if level_fault(n) == e {
+        return Err(Found {
             row: MINUS_ONE,
             field,
-        };
+        });
     }
-    Blamed::Past
+    Ok(())
 }
 
 // Max bytes, where the version has them, and the isolation level.
 fn limits(e: u8, own: Own) -> Blamed
-    ensures { of_blamed [] result ≡ row_blame [] e (limits_shape own.limited own.isolated end) nowhere 3 [] (2 ∷ own.largest ∷ 2 ∷ own.level ∷ []) }
+    ensures { of_blamed [] result ≡ row_blame [] e (limits_shape (is_some own.largest) (is_some own.level) end) nowhere 3 [] (2 ∷ unwrap_or own.largest 0 ∷ 2 ∷ unwrap_or own.level 0 ∷ []) }
 {
-    if !own.limited {
-        return isolation(e, own.isolated, own.level, 3);
-    }
-    if number_fault(own.largest, HALF) == e {
-        return Blamed::Found {
+    let Some(largest) = own.largest else {
+        return isolation(e, own.level, 3);
+    };
+    if number_fault(largest, HALF) == e {
+        return Err(Found {
             row: MINUS_ONE,
             field: 3,
-        };
+        });
     }
-    isolation(e, own.isolated, own.level, 4)
+    isolation(e, own.level, 4)
 }
 
 // The numbers before the topics.
 fn numbers(e: u8, own: Own) -> Blamed
-    ensures { of_blamed [] result ≡ row_blame [] e (lead_shape (limits_shape own.limited own.isolated end)) nowhere 0 [] (own.replica ∷ own.wait ∷ own.least ∷ 2 ∷ own.largest ∷ 2 ∷ own.level ∷ []) }
+    ensures { of_blamed [] result ≡ row_blame [] e (lead_shape (limits_shape (is_some own.largest) (is_some own.level) end)) nowhere 0 [] (own.replica ∷ own.wait ∷ own.least ∷ 2 ∷ unwrap_or own.largest 0 ∷ 2 ∷ unwrap_or own.level 0 ∷ []) }
 {
     if number_fault(own.replica, HALF) == e {
-        return Blamed::Found {
+        return Err(Found {
             row: MINUS_ONE,
             field: 0,
-        };
+        });
     }
     if number_fault(own.wait, HALF) == e {
-        return Blamed::Found {
+        return Err(Found {
             row: MINUS_ONE,
             field: 1,
-        };
+        });
     }
     if number_fault(own.least, HALF) == e {
-        return Blamed::Found {
+        return Err(Found {
             row: MINUS_ONE,
             field: 2,
-        };
+        });
     }
     limits(e, own)
 }
@@ -178,12 +167,10 @@ fn body(
     begun: &mut [u64],
 ) -> Blamed
     requires { (e ≢ 0) × (sum (takes 3 2) (rows_of 3 topics.now) ≤ length partitions.now) }
-    ensures { of_blamed begun.new result ≡ blame_at lent.now e (request_shape own.limited own.isolated) 0 (own_row own (length topics.now / 3) ∷ topics.now ∷ partitions.now ∷ []) nowhere 0 begun.old }
+    ensures { of_blamed begun.new result ≡ blame_at lent.now e (request_shape (is_some own.largest) (is_some own.level)) 0 (own_row own (length topics.now / 3) ∷ topics.now ∷ partitions.now ∷ []) nowhere 0 begun.old }
 {
-    match numbers(e, own) {
-        Blamed::Past => all_topics(e, lent, topics, partitions, begun),
-        Blamed::Found { row, field } => Blamed::Found { row, field },
-    }
+    numbers(e, own)?;
+    all_topics(e, lent, topics, partitions, begun)
 }
 
 // The refusal e with its name.
@@ -195,7 +182,7 @@ pub(crate) fn with_name(
     partitions: &[u64],
 ) -> Named
     requires { Walkable e.number 3 (takes 3 2) topics.now partitions.now }
-    ensures { of_named result ≡ name_fault 5 (request_shape own.limited own.isolated) none_yet (meant lent.now (own_row own (length topics.now / 3) ∷ topics.now ∷ partitions.now ∷ []) (request_shape own.limited own.isolated)) (of_refusal e) }
+    ensures { of_named result ≡ name_fault 5 (request_shape (is_some own.largest) (is_some own.level)) none_yet (meant lent.now (own_row own (length topics.now / 3) ∷ topics.now ∷ partitions.now ∷ []) (request_shape (is_some own.largest) (is_some own.level))) (of_refusal e) }
 {
     if is_fieldless(e.number) {
         return without_field(e, FETCH_REQUEST);

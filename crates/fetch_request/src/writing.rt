@@ -1,6 +1,7 @@
 // The body of a Fetch request, versions 0 to 4. Topics are rows of name (start, length) and number of partitions; partitions rows of index, offset and max bytes.
 // Max bytes stand from version 3 on, an isolation level in version 4.
-ghost use Rattle.std.specs.Prelude.{cond, false, ◌≡◌, [], ◌++◌, ◌∷◌, get_or, length, ◌*◌, ◌+◌, ◌/◌, ◌<◌, ◌≤◌};
+// The two tables stay slices of their own in every call, as the C interface lends them.
+ghost use Rattle.std.specs.Prelude.{cond, false, is_some, unwrap_or, ◌≡◌, [], ◌++◌, ◌∷◌, get_or, length, ◌*◌, ◌+◌, ◌/◌, ◌<◌, ◌≤◌};
 ghost use Rattle.layout.specs.Answers.{write_alone, write_answer};
 ghost use Rattle.layout.specs.Messages.Fetch as Fetch;
 ghost use Rattle.layout.specs.Primitives.{bytes, empty, fixed, w32};
@@ -14,7 +15,6 @@ ghost use Rattle.fetch_request.specs.Shapes.{lead_shape, limits_shape, own_row, 
 
 use crate::judge::{cells, refusal};
 use crate::{Own, RequestBody};
-use body_reading::cells::given;
 use body_writing::ranges::part;
 use primitives::{MOST, NO_VERSION, TOO_LONG, at, no_room, version_of};
 use primitives_put::{Form, Written};
@@ -45,6 +45,7 @@ fn partition(out: &mut [u8], table: &[u64], i: usize) -> usize
 }
 
 // Partition behind partition, in an output of just their size: the loop's own test tells the room of each. Two a turn, so that there are half as many tests.
+// A `while`, since it counts room and not rows: after a count, as a `for` has it, the room of each row would be tested again.
 fn rows(out: &mut [u8], table: &[u64]) -> usize
     requires { length out.old ≡ length table.now / 3 * 16 }
     ensures { Capped (rows_bytes [] partition_shape 3 table.now) out.old result out.new }
@@ -109,15 +110,13 @@ fn all_topics(out: &mut [u8], lent: &[u8], topics: &[u64], partitions: &[u64]) -
     ensures { Capped (items_bytes lent.now topic_shape (length topics.now / 3) 1 ([] ∷ topics.now ∷ partitions.now ∷ [])) out.old result out.new }
 {
     let mut done: usize = 0;
-    let mut left = topics;
     let mut free = partitions;
-    while 3 <= left.len() {
-        let k = cells(left);
+    for row in topics.chunks_exact(3) {
+        let k = cells(row);
         let p = primitives_put::behind(done, out.len());
-        let more = topic(&mut out[p..], lent, left, free);
+        let more = topic(&mut out[p..], lent, row, free);
         done = primitives_put::add(done, more);
         free = &free[k..];
-        left = &left[3..];
     }
     done
 }
@@ -134,22 +133,22 @@ fn array(out: &mut [u8], lent: &[u8], topics: &[u64], partitions: &[u64]) -> usi
 }
 
 // The lowest k bytes of n, where the version has the field.
-fn number_if(out: &mut [u8], has: bool, n: u64, k: usize) -> usize
-    ensures { Capped (cond has (bytes k n) []) out.old result out.new }
+fn number_if(out: &mut [u8], n: Option<u64>, k: usize) -> usize
+    ensures { Capped (cond (is_some n) (bytes k (unwrap_or n 0)) []) out.old result out.new }
 {
-    if has {
-        return primitives_put::lowest(out, n, k);
+    match n {
+        Some(n) => primitives_put::lowest(out, n, k),
+        None => 0,
     }
-    0
 }
 
 // Max bytes and isolation level.
-fn limits(out: &mut [u8], b: bool, i: bool, largest: u64, level: u64) -> usize
-    ensures { Capped (row_bytes [] (limits_shape b i end) (2 ∷ largest ∷ 2 ∷ level ∷ [])) out.old result out.new }
+fn limits(out: &mut [u8], largest: Option<u64>, level: Option<u64>) -> usize
+    ensures { Capped (row_bytes [] (limits_shape (is_some largest) (is_some level) end) (2 ∷ unwrap_or largest 0 ∷ 2 ∷ unwrap_or level 0 ∷ [])) out.old result out.new }
 {
-    let x = number_if(out, b, largest, 4);
+    let x = number_if(out, largest, 4);
     let p = primitives_put::behind(x, out.len());
-    let y = number_if(&mut out[p..], i, level, 1);
+    let y = number_if(&mut out[p..], level, 1);
     primitives_put::add(x, y)
 }
 
@@ -165,9 +164,9 @@ fn lead(out: &mut [u8], replica: u64, wait: u64, least: u64) -> usize
 // What stands behind min bytes.
 fn rest(out: &mut [u8], own: Own, lent: &[u8], topics: &[u64], partitions: &[u64]) -> usize
     requires { sum (takes 3 2) (rows_of 3 topics.now) ≤ length partitions.now }
-    ensures { Capped (bytes_at lent.now (limits_shape own.limited own.isolated topics_shape) 0 ((2 ∷ own.largest ∷ 2 ∷ own.level ∷ length topics.now / 3 ∷ []) ∷ topics.now ∷ partitions.now ∷ [])) out.old result out.new }
+    ensures { Capped (bytes_at lent.now (limits_shape (is_some own.largest) (is_some own.level) topics_shape) 0 ((2 ∷ unwrap_or own.largest 0 ∷ 2 ∷ unwrap_or own.level 0 ∷ length topics.now / 3 ∷ []) ∷ topics.now ∷ partitions.now ∷ [])) out.old result out.new }
 {
-    let x = limits(out, own.limited, own.isolated, own.largest, own.level);
+    let x = limits(out, own.largest, own.level);
     let p = primitives_put::behind(x, out.len());
     let y = array(&mut out[p..], lent, topics, partitions);
     primitives_put::add(x, y)
@@ -175,7 +174,7 @@ fn rest(out: &mut [u8], own: Own, lent: &[u8], topics: &[u64], partitions: &[u64
 
 fn body(out: &mut [u8], own: Own, lent: &[u8], topics: &[u64], partitions: &[u64]) -> usize
     requires { sum (takes 3 2) (rows_of 3 topics.now) ≤ length partitions.now }
-    ensures { Capped (bytes_at lent.now (request_shape own.limited own.isolated) 0 (own_row own (length topics.now / 3) ∷ topics.now ∷ partitions.now ∷ [])) out.old result out.new }
+    ensures { Capped (bytes_at lent.now (request_shape (is_some own.largest) (is_some own.level)) 0 (own_row own (length topics.now / 3) ∷ topics.now ∷ partitions.now ∷ [])) out.old result out.new }
 {
     let x = lead(out, own.replica, own.wait, own.least);
     let p = primitives_put::behind(x, out.len());
@@ -188,30 +187,24 @@ fn body(out: &mut [u8], own: Own, lent: &[u8], topics: &[u64], partitions: &[u64
 // Measured, and written where there is room.
 fn measured(out: &mut [u8], own: Own, lent: &[u8], topics: &[u64], partitions: &[u64]) -> Written
     requires { sum (takes 3 2) (rows_of 3 topics.now) ≤ length partitions.now }
-    ensures { replied result out.new ≡ write_alone 0 (bytes_at lent.now (request_shape own.limited own.isolated) 0 (own_row own (length topics.now / 3) ∷ topics.now ∷ partitions.now ∷ [])) out.old }
+    ensures { replied result out.new ≡ write_alone 0 (bytes_at lent.now (request_shape (is_some own.largest) (is_some own.level)) 0 (own_row own (length topics.now / 3) ∷ topics.now ∷ partitions.now ∷ [])) out.old }
 {
     let all = body(&mut out[..0], own, lent, topics, partitions);
     if MOST < all {
-        return Written::Refused(at(TOO_LONG, 0));
+        return Err(at(TOO_LONG, 0));
     }
     if out.len() < all {
-        return Written::Refused(no_room(all));
+        return Err(no_room(all));
     }
     body(out, own, lent, topics, partitions);
-    Written::Wrote(all)
+    Ok(all)
 }
 
 // No request has more bytes, of so many lent bytes and so many cells of topics and of partitions. Counts over the limit are not told apart.
 fn most_bytes(lent: usize, topics: usize, partitions: usize) -> usize
     ensures { cap (topics * (lent + 6) + partitions * 16 + 21) ≤ result }
 {
-    if MOST < lent {
-        return MOST + 1;
-    }
-    if MOST < topics {
-        return MOST + 1;
-    }
-    if MOST < partitions {
+    if MOST < lent || MOST < topics || MOST < partitions {
         return MOST + 1;
     }
     topics * (lent + 6) + partitions * 16 + 21
@@ -220,13 +213,11 @@ fn most_bytes(lent: usize, topics: usize, partitions: usize) -> usize
 // Where the room is plainly enough nothing is measured.
 fn stored(out: &mut [u8], own: Own, lent: &[u8], topics: &[u64], partitions: &[u64]) -> Written
     requires { sum (takes 3 2) (rows_of 3 topics.now) ≤ length partitions.now }
-    ensures { replied result out.new ≡ write_alone 0 (bytes_at lent.now (request_shape own.limited own.isolated) 0 (own_row own (length topics.now / 3) ∷ topics.now ∷ partitions.now ∷ [])) out.old }
+    ensures { replied result out.new ≡ write_alone 0 (bytes_at lent.now (request_shape (is_some own.largest) (is_some own.level)) 0 (own_row own (length topics.now / 3) ∷ topics.now ∷ partitions.now ∷ [])) out.old }
 {
     let enough = most_bytes(lent.len(), topics.len(), partitions.len());
-    if enough <= MOST {
-        if enough <= out.len() {
-            return Written::Wrote(body(out, own, lent, topics, partitions));
-        }
+    if enough <= MOST && enough <= out.len() {
+        return Ok(body(out, own, lent, topics, partitions));
     }
     measured(out, own, lent, topics, partitions)
 }
@@ -240,11 +231,11 @@ fn written(
     topics: &[u64],
     partitions: &[u64],
 ) -> Written
-    ensures { replied result out.new ≡ write_alone (refusal_of lent.now 2 (request_shape false false) (request_shape own.limited own.isolated) (own_row own count ∷ topics.now ∷ partitions.now ∷ [])) (bytes_at lent.now (request_shape own.limited own.isolated) 0 (own_row own (length topics.now / 3) ∷ topics.now ∷ partitions.now ∷ [])) out.old }
+    ensures { replied result out.new ≡ write_alone (refusal_of lent.now 2 (request_shape false false) (request_shape (is_some own.largest) (is_some own.level)) (own_row own count ∷ topics.now ∷ partitions.now ∷ [])) (bytes_at lent.now (request_shape (is_some own.largest) (is_some own.level)) 0 (own_row own (length topics.now / 3) ∷ topics.now ∷ partitions.now ∷ [])) out.old }
 {
     let e = refusal(own, count, lent, topics, partitions);
     if e != 0 {
-        return Written::Refused(at(e, 0));
+        return Err(at(e, 0));
     }
     stored(out, own, lent, topics, partitions)
 }
@@ -263,20 +254,16 @@ pub fn write(
 {
     let v = version_of(version);
     if 4 < v {
-        return Written::Refused(at(NO_VERSION, 0));
+        return Err(at(NO_VERSION, 0));
     }
-    let max_bytes = body.max_bytes;
-    let largest = given(max_bytes, 2147483647);
-    let isolation = body.isolation;
-    let level = given(isolation, 0);
+    let largest = body.max_bytes.unwrap_or(2147483647);
+    let level = body.isolation.unwrap_or(0);
     let own = Own {
-        limited: 3 <= v,
-        isolated: 4 <= v,
         replica: body.replica,
         wait: body.max_wait,
         least: body.min_bytes,
-        largest,
-        level,
+        largest: (3 <= v).then_some(largest),
+        level: (4 <= v).then_some(level),
     };
     written(out, own, body.topics, lent, topics, partitions)
 }

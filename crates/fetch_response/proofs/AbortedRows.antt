@@ -12,8 +12,7 @@ use Rattle.body_reading.specs.Store.{State, store, tab}
 use Rattle.body_reading.specs.Walk.{Runs, in_place, on, row_from, walk}
 use Rattle.body_reading.proofs.RowCells.{alone_no, alone_took, cells_end, cells_no, cells_took}
 use Rattle.fetch_response.specs.TopicShapes.{aborted_shape}
-use Rattle.body_reading.specs.Walked.{filled_is}
-use Rattle.body_reading.specs.declared.walks.Filled.{Filled}
+use Rattle.body_reading.specs.Walked.{filled, filled_is}
 
 abbrev one : Shape
 one = field (number w64) end
@@ -39,7 +38,7 @@ module _ (s : List ℕ) (p : ℕ) (l : List ℕ) (k : ℕ) where
     unfolding read_basic
     offset_no c h = not_taken c (from_producer (bad c) (cells_no (a ∷ []) (number w64) end s q c h))
 
-    pub pair_took : (b n : ℕ) → ok b n ≡ on (cell w64) s q → (l' : List ℕ) (m : ℕ) → tab l' m ≡ store (tab l k) (a ∷ b ∷ []) → Runs (λ e. walk false (aborted_shape true) e.o) s p (in_place l k) (filled_is l' (Filled.Took n m))
+    pub pair_took : (b n : ℕ) → ok b n ≡ on (cell w64) s q → (l' : List ℕ) (m : ℕ) → tab l' m ≡ store (tab l k) (a ∷ b ∷ []) → Runs (λ e. walk false (aborted_shape true) e.o) s p (in_place l k) (filled_is l' (filled n m))
     unfolding aborted_shape stands read_basic cells
     pair_took b n h l' m i = record {
       law = λ e.

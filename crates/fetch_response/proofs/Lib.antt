@@ -1,3 +1,5 @@
+-- what a `?` hands up
+pub mod Handed
 -- aborted transactions, and arrays of them
 pub mod AbortedRows
 pub mod AbortedCounts

@@ -9,18 +9,15 @@ use Rattle.layout.specs.Rows.{Basic, Shape, blob, end, field, number, standing, 
 use Rattle.layout.specs.Read.{by_place, read_basic}
 use Rattle.layout.specs.Tables.{cells, span}
 use Rattle.body_reading.specs.Walk.{Places, Runs, beside, on, row_from, walk}
-use Rattle.primitives.specs.Parts.{of_part}
-use Rattle.primitives.specs.declared.Part.{Part}
 use Rattle.primitives.specs.Answers.{of_refusal}
 use Rattle.primitives.specs.declared.Refusal as Code
 use Rattle.body_reading.specs.Store.{State, Tab, add, store, tab}
 use Rattle.body_reading.specs.Walked.{beside_is}
 use Rattle.body_reading.specs.declared.walks.Counted.{Counted}
 use Rattle.fetch_response.specs.TopicShapes.{aborted_array, partition_front, partition_shape}
-use Rattle.fetch_response.specs.TopicWalks.{Before, in_partitions, of_partition_row, partitions_is}
-use Rattle.fetch_response.specs.declared.marks.Marked.{Marked}
+use Rattle.fetch_response.specs.TopicWalks.{Before, in_partitions, partitions_is}
 use Rattle.fetch_response.specs.declared.marks.Marks.{Marks}
-use Rattle.fetch_response.specs.declared.partitions.PartitionRow.{PartitionRow}
+use Rattle.std.specs.Prelude.{Ok}
 use Rattle.body_reading.proofs.RowCells.{cells_end, cells_if_no, cells_if_took, cells_no, cells_took, row_no, row_took}
 use Rattle.body_reading.proofs.Arrays.{row_end}
 use Rattle.body_reading.proofs.Chains.{field_no, field_took}
@@ -97,49 +94,46 @@ places : Before → Marks → Places
 unfolding add
 places e m = record { h = λ x y. e.row ∷ tab e.topics m.topics ∷ x ∷ y ∷ []; o = 2; t = 3; row_law = λ x y cs. refl; items_law = λ x y cs. refl }
 
-module _ (f : Bool) (s : List ℕ) (p : ℕ) (ps xs : List ℕ) (m : Marks) (r : PartitionRow) (h : of_partition_row r ≡ on (row_from [] (partition_front f)) s p) where
+module _ (f : Bool) (s : List ℕ) (p : ℕ) (ps xs : List ℕ) (m : Marks) where
   as_whole : (e : Before) → on (walk false (onto (partition_front f) (rest f)) 2 (in_partitions ps xs m e)) s p ≡ on (walk false (partition_shape f) 2 (in_partitions ps xs m e)) s p
   as_whole e = ap (λ (l : Shape). on (walk false l 2 (in_partitions ps xs m e)) s p) (whole f)
 
-  pub partition_no : (c : Code.Refusal) → r ≡ PartitionRow.Refused c → Runs (λ e. walk false (partition_shape f) 2) s p (in_partitions ps xs m) (λ e. bad (of_refusal c))
-  partition_no c d = record { law = λ e. row_no (partition_front f) (flat f) s p (rest f) 2 (in_partitions ps xs m e) (of_refusal c) (ap of_partition_row (sym d) ∙ h) ∙ as_whole e }
+  pub partition_no : (c : Code.Refusal) → bad (of_refusal c) ≡ on (row_from [] (partition_front f)) s p → Runs (λ e. walk false (partition_shape f) 2) s p (in_partitions ps xs m) (λ e. bad (of_refusal c))
+  partition_no c h = record { law = λ e. row_no (partition_front f) (flat f) s p (rest f) 2 (in_partitions ps xs m e) (of_refusal c) h ∙ as_whole e }
 
-  module _ (a b w i q : ℕ) (d : r ≡ PartitionRow.Took a b w i q) where
+  module _ (a b w i q : ℕ) (h : ok (a ∷ b ∷ w ∷ i ∷ []) q ≡ on (row_from [] (partition_front f)) s p) where
     -- the partitions' table once the numbers are stored
     abbrev numbered : Tab
     numbered = store (tab ps m.partitions) (a ∷ b ∷ w ∷ i ∷ [])
 
     from_numbers : (e : Before) (z : Res State) → z ≡ on (walk false (rest f) 2 (e.row ∷ tab e.topics m.topics ∷ numbered ∷ tab xs m.aborted ∷ [])) s q → z ≡ on (walk false (partition_shape f) 2 (in_partitions ps xs m e)) s p
     unfolding add
-    from_numbers e z g = row_took (partition_front f) (flat f) s p (rest f) 2 (in_partitions ps xs m e) (a ∷ b ∷ w ∷ i ∷ []) q (ap of_partition_row (sym d) ∙ h) z g ∙ as_whole e
+    from_numbers e z g = row_took (partition_front f) (flat f) s p (rest f) 2 (in_partitions ps xs m e) (a ∷ b ∷ w ∷ i ∷ []) q h z g ∙ as_whole e
 
-    module _ (xs' : List ℕ) (x : Counted) (l : Runs (λ e. walk false (aborted_array f e.0.t) e.0.o) s q (beside xs m.aborted) (beside_is xs' x)) where
-      pub aborted_no : (c : Code.Refusal) → x ≡ Counted.Refused c → Runs (λ e. walk false (partition_shape f) 2) s p (in_partitions ps xs m) (λ e. bad (of_refusal c))
+    pub aborted_no : (c : Code.Refusal) → Runs (λ e. walk false (aborted_array f e.0.t) e.0.o) s q (beside xs m.aborted) (λ e. bad (of_refusal c)) → Runs (λ e. walk false (partition_shape f) 2) s p (in_partitions ps xs m) (λ e. bad (of_refusal c))
+    unfolding places
+    aborted_no c l = record { law = λ e. from_numbers e _ (joined_no false last 2 (aborted_array f 3) _ s q (of_refusal c) (l.law (places e m, numbered))) }
+
+    module _ (xs' : List ℕ) (x : Counted) (l : Runs (λ e. walk false (aborted_array f e.0.t) e.0.o) s q (beside xs m.aborted) (beside_is xs' (Ok x))) where
+      abbrev counted : Tab
+      counted = store numbered (x.count ∷ [])
+
+      from_aborted : (e : Before) (z : Res State) → z ≡ on (walk false last 2 (e.row ∷ tab e.topics m.topics ∷ counted ∷ tab xs' x.mark ∷ [])) s x.next → z ≡ on (walk false (partition_shape f) 2 (in_partitions ps xs m e)) s p
       unfolding places
-      aborted_no c g = record {
-        law = λ e. from_numbers e _ (joined_no false last 2 (aborted_array f 3) _ s q (of_refusal c) (ap (λ (y : Counted). beside_is xs' y (places e m, numbered)) (sym g) ∙ l.law (places e m, numbered)));
+      from_aborted e z j = from_numbers e z (joined_took false last 2 (aborted_array f 3) _ s q _ x.next (l.law (places e m, numbered)) z j)
+
+      pub records_no : (c : Code.Refusal) → bad (of_refusal c) ≡ on (read_basic (by_place false) records) s x.next → Runs (λ e. walk false (partition_shape f) 2) s p (in_partitions ps xs m) (λ e. bad (of_refusal c))
+      records_no c v = record { law = λ e. from_aborted e _ (field_no false records end 2 _ s x.next (of_refusal c) v) }
+
+      pub partition_took : (start len t : ℕ) → ok (start, len) t ≡ on (read_basic (by_place false) records) s x.next →
+          (ps' : List ℕ) (o : ℕ) → tab ps' o ≡ store (tab ps m.partitions) (a ∷ b ∷ w ∷ i ∷ x.count ∷ start ∷ len ∷ []) →
+          Runs (λ e. walk false (partition_shape f) 2) s p (in_partitions ps xs m) (partitions_is ps' xs' (Ok (record { next = t; marks = record { topics = m.topics; partitions = o; aborted = x.mark } })))
+      unfolding add cells span
+      partition_took start len t v ps' o z = record {
+        law = λ e.
+            (λ c. ok (e.row ∷ tab e.topics m.topics ∷ (z ∙ sym both) c ∷ tab xs' x.mark ∷ []) t)
+            ∙ from_aborted e _ (field_took false records end 2 _ s x.next (start, len) t _ v (row_end false 2 _ s t));
       }
-
-      module _ (n u k : ℕ) (g : x ≡ Counted.Took n u k) where
-        abbrev counted : Tab
-        counted = store numbered (n ∷ [])
-
-        from_aborted : (e : Before) (z : Res State) → z ≡ on (walk false last 2 (e.row ∷ tab e.topics m.topics ∷ counted ∷ tab xs' k ∷ [])) s u → z ≡ on (walk false (partition_shape f) 2 (in_partitions ps xs m e)) s p
-        unfolding places
-        from_aborted e z j = from_numbers e z (joined_took false last 2 (aborted_array f 3) _ s q _ u (ap (λ (y : Counted). beside_is xs' y (places e m, numbered)) (sym g) ∙ l.law (places e m, numbered)) z j)
-
-        module _ (y : Part) (v : of_part y ≡ on (read_basic (by_place false) records) s u) where
-          pub records_no : (c : Code.Refusal) → y ≡ Part.Refused c → Runs (λ e. walk false (partition_shape f) 2) s p (in_partitions ps xs m) (λ e. bad (of_refusal c))
-          records_no c j = record { law = λ e. from_aborted e _ (field_no false records end 2 _ s u (of_refusal c) (ap of_part (sym j) ∙ v)) }
-
-          pub partition_took : (start len t : ℕ) → y ≡ Part.Took start len t → (ps' : List ℕ) (o : ℕ) → tab ps' o ≡ store (tab ps m.partitions) (a ∷ b ∷ w ∷ i ∷ n ∷ start ∷ len ∷ []) →
-              Runs (λ e. walk false (partition_shape f) 2) s p (in_partitions ps xs m) (partitions_is ps' xs' (Marked.Took t (record { topics = m.topics; partitions = o; aborted = k })))
-          unfolding add cells span
-          partition_took start len t j ps' o z = record {
-            law = λ e.
-                (λ c. ok (e.row ∷ tab e.topics m.topics ∷ (z ∙ sym both) c ∷ tab xs' k ∷ []) t)
-                ∙ from_aborted e _ (field_took false records end 2 _ s u (start, len) t _ (ap of_part (sym j) ∙ v) (row_end false 2 _ s t));
-          }
-            where
-              both : store counted (start ∷ len ∷ []) ≡ store (tab ps m.partitions) (a ∷ b ∷ w ∷ i ∷ n ∷ start ∷ len ∷ [])
-              both = store_both numbered counted _ (n ∷ []) (start ∷ len ∷ []) refl refl ∙ store_both (tab ps m.partitions) numbered _ (a ∷ b ∷ w ∷ i ∷ []) (n ∷ start ∷ len ∷ []) refl refl
+        where
+          both : store counted (start ∷ len ∷ []) ≡ store (tab ps m.partitions) (a ∷ b ∷ w ∷ i ∷ x.count ∷ start ∷ len ∷ [])
+          both = store_both numbered counted _ (x.count ∷ []) (start ∷ len ∷ []) refl refl ∙ store_both (tab ps m.partitions) numbered _ (a ∷ b ∷ w ∷ i ∷ []) (x.count ∷ start ∷ len ∷ []) refl refl

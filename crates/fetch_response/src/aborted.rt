@@ -6,51 +6,37 @@ ghost use Rattle.fetch_response.specs.TopicShapes.{aborted_array, aborted_shape}
 ghost use Rattle.body_reading.specs.Walked.{beside_is, filled_is};
 
 use body_reading::places::{int64_at, items_at};
-use body_reading::tables::store;
+use body_reading::tables::store_row;
 use body_reading::walks::{Counted, Filled};
-use primitives::Number;
+use primitives::Refusal;
 
 // One of them into the table, where there is room.
-fn pair_at(s: &[u8], p: usize, table: &mut [u64], mark: usize) -> Filled
+fn pair_at(s: &[u8], p: usize, table: &mut [u64], mark: usize) -> Result<Filled, Refusal>
     ensures { Runs (λ e. walk false (aborted_shape true) e.o) s.now p (in_place table.old mark) (filled_is table.new result) }
 {
-    match int64_at(s, p) {
-        Number::Took {
-            value: producer,
-            used: q,
-        } => match int64_at(s, q) {
-            Number::Took {
-                value: offset,
-                used: next,
-            } => {
-                let second = store(table, mark, producer);
-                let behind = store(table, second, offset);
-                Filled::Took { next, mark: behind }
-            }
-            Number::Refused(e) => Filled::Refused(e),
-        },
-        Number::Refused(e) => Filled::Refused(e),
-    }
+    let producer = int64_at(s, p)?;
+    let offset = int64_at(s, producer.next)?;
+    Ok(Filled {
+        next: offset.next,
+        mark: store_row(table, mark, [producer.value, offset.value]),
+    })
 }
 
 // `count` of them from place p on.
-fn pairs_in(s: &[u8], p: usize, count: u64, table: &mut [u64], mark: usize) -> Filled
+fn pairs_in(
+    s: &[u8],
+    p: usize,
+    count: u64,
+    table: &mut [u64],
+    mark: usize,
+) -> Result<Filled, Refusal>
     ensures { Runs (λ e. loop count (walk false (aborted_shape true) e.o)) s.now p (in_place table.old mark) (filled_is table.new result) }
 {
-    let mut next = p;
-    let mut mark = mark;
-    let mut left = count;
-    while 0 < left {
-        left = left - 1;
-        match pair_at(s, next, table, mark) {
-            Filled::Took { next: q, mark: m } => {
-                next = q;
-                mark = m;
-            }
-            Filled::Refused(e) => return Filled::Refused(e),
-        }
+    let mut filled = Filled { next: p, mark };
+    for _ in 0..count {
+        filled = pair_at(s, filled.next, table, filled.mark)?;
     }
-    Filled::Took { next, mark }
+    Ok(filled)
 }
 
 // The array at place p; `stable`: the version has it. Where it has not, there is no byte of it.
@@ -60,25 +46,21 @@ pub(crate) fn aborted_at(
     stable: bool,
     table: &mut [u64],
     mark: usize,
-) -> Counted
+) -> Result<Counted, Refusal>
     ensures { Runs (λ e. walk false (aborted_array stable e.0.t) e.0.o) s.now p (beside table.old mark) (beside_is table.new result) }
 {
     if !stable {
-        return Counted::Took {
+        return Ok(Counted {
             count: 0,
             next: p,
             mark,
-        };
+        });
     }
-    match items_at(s, p, false, false) {
-        Number::Took { value: count, used } => match pairs_in(s, used, count, table, mark) {
-            Filled::Took { next, mark: behind } => Counted::Took {
-                count,
-                next,
-                mark: behind,
-            },
-            Filled::Refused(e) => Counted::Refused(e),
-        },
-        Number::Refused(e) => Counted::Refused(e),
-    }
+    let items = items_at(s, p, false, false)?;
+    let filled = pairs_in(s, items.next, items.value, table, mark)?;
+    Ok(Counted {
+        count: items.value,
+        next: filled.next,
+        mark: filled.mark,
+    })
 }

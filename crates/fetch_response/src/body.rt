@@ -6,20 +6,17 @@ ghost use Rattle.fetch_response.specs.Shapes.{body_shape};
 ghost use Rattle.fetch_response.specs.Walks.{of_walked};
 
 use crate::ResponseBody;
-use crate::marks::{Marked, Marks};
+use crate::marks::Marks;
 use crate::topics::topics_in;
-use body_reading::versioned::{Front, front_of};
+use body_reading::versioned::front_of;
 use primitives::Refusal;
 
-// A body, the place behind it, and the marks of the tables.
-#[derive(Drop)]
-pub enum Walked {
-    Took {
-        body: ResponseBody,
-        next: usize,
-        marks: Marks,
-    },
-    Refused(Refusal),
+// A body, the place after it, and the marks of the tables.
+#[derive(Clone, Copy)]
+pub struct Walked {
+    pub body: ResponseBody,
+    pub next: usize,
+    pub marks: Marks,
 }
 
 pub(crate) fn body_at(
@@ -28,25 +25,25 @@ pub(crate) fn body_at(
     topics: &mut [u64],
     partitions: &mut [u64],
     aborted: &mut [u64],
-) -> Walked
+) -> Result<Walked, Refusal>
     ensures { of_walked topics.new partitions.new aborted.new result ≡ on (walk false (body_shape v) 0 (own [] ∷ tab topics.old 0 ∷ tab partitions.old 0 ∷ tab aborted.old 0 ∷ [])) s.now 0 }
 {
-    match front_of(s, 1 <= v) {
-        Front::Took {
-            throttle,
-            count,
-            next: p,
-        } => match topics_in(s, p, 4 <= v, count, topics, partitions, aborted) {
-            Marked::Took { next, marks } => Walked::Took {
-                body: ResponseBody {
-                    throttle,
-                    topics: count,
-                },
-                next,
-                marks,
-            },
-            Marked::Refused(e) => Walked::Refused(e),
+    let front = front_of(s, 1 <= v)?;
+    let filled = topics_in(
+        s,
+        front.next,
+        4 <= v,
+        front.count,
+        topics,
+        partitions,
+        aborted,
+    )?;
+    Ok(Walked {
+        body: ResponseBody {
+            throttle: front.throttle,
+            topics: front.count,
         },
-        Front::Refused(e) => Walked::Refused(e),
-    }
+        next: filled.next,
+        marks: filled.marks,
+    })
 }

@@ -2,8 +2,7 @@
 // Numbers are cells, as in the tables: 64 bits, two's complement.
 #![tactic(auto)]
 
-use body_reading::versioned::Versioned;
-use primitives::Refusal;
+use primitives::Read;
 
 mod aborted;
 pub mod body;
@@ -16,15 +15,11 @@ mod topics;
 pub use crate::reading::read;
 
 // The own row of a response: throttle time (from version 1 on), and number of topics.
-#[derive(Drop)]
+#[derive(Clone, Copy)]
 pub struct ResponseBody {
-    pub throttle: Versioned,
+    pub throttle: Option<u64>,
     pub topics: u64,
 }
 
 // The own row of a response and the bytes used.
-#[derive(Drop)]
-pub enum ResponseReply {
-    Took { body: ResponseBody, used: usize },
-    Refused(Refusal),
-}
+pub type ResponseReply = Read<ResponseBody>;

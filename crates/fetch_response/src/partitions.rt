@@ -8,59 +8,35 @@ ghost use Rattle.fetch_response.specs.TopicWalks.{in_partitions, of_partition_ro
 use crate::aborted::aborted_at;
 use crate::marks::{Marked, Marks};
 use body_reading::places::{int16_at, int32_at, int64_at, records_at};
-use body_reading::tables::store7;
+use body_reading::tables::store_row;
 use body_reading::versioned::int64_if;
-use body_reading::walks::Counted;
-use primitives::{Number, Part, Refusal};
+use primitives::Refusal;
 
-// The numbers of a partition, and the place behind them; `offset` is the last stable one, a cell, that of -1 where the version lacks it.
-#[derive(Drop)]
-pub(crate) enum PartitionRow {
-    Took {
-        index: u64,
-        error: u64,
-        watermark: u64,
-        offset: u64,
-        next: usize,
-    },
-    Refused(Refusal),
+// The numbers of a partition, and the place after them; `offset` is the last stable one, a cell, that of -1 where the version lacks it.
+#[derive(Clone, Copy)]
+pub(crate) struct PartitionRow {
+    pub index: u64,
+    pub error: u64,
+    pub watermark: u64,
+    pub offset: u64,
+    pub next: usize,
 }
 
-// `stable`: the version tells the last stable offset and aborted transactions.
-fn partition_row(s: &[u8], p: usize, stable: bool) -> PartitionRow
+// `stable`: the version tells the last stable offset and aborted transactions. A flag: two fields of one layout ask for it, so that closures would be no plainer.
+fn partition_row(s: &[u8], p: usize, stable: bool) -> Result<PartitionRow, Refusal>
     ensures { of_partition_row result ≡ on (row_from [] (partition_front stable)) s.now p }
 {
-    match int32_at(s, p) {
-        Number::Took {
-            value: index,
-            used: q,
-        } => match int16_at(s, q) {
-            Number::Took {
-                value: error,
-                used: u,
-            } => match int64_at(s, u) {
-                Number::Took {
-                    value: watermark,
-                    used: v,
-                } => match int64_if(s, v, stable) {
-                    Number::Took {
-                        value: offset,
-                        used: next,
-                    } => PartitionRow::Took {
-                        index,
-                        error,
-                        watermark,
-                        offset,
-                        next,
-                    },
-                    Number::Refused(e) => PartitionRow::Refused(e),
-                },
-                Number::Refused(e) => PartitionRow::Refused(e),
-            },
-            Number::Refused(e) => PartitionRow::Refused(e),
-        },
-        Number::Refused(e) => PartitionRow::Refused(e),
-    }
+    let index = int32_at(s, p)?;
+    let error = int16_at(s, index.next)?;
+    let watermark = int64_at(s, error.next)?;
+    let offset = int64_if(s, watermark.next, stable)?;
+    Ok(PartitionRow {
+        index: index.value,
+        error: error.value,
+        watermark: watermark.value,
+        offset: offset.value,
+        next: offset.next,
+    })
 }
 
 // One partition into the tables, where there is room.
@@ -71,53 +47,29 @@ fn partition_at(
     partitions: &mut [u64],
     aborted: &mut [u64],
     marks: Marks,
-) -> Marked
+) -> Result<Marked, Refusal>
     ensures { Runs (λ e. walk false (partition_shape stable) 2) s.now p (in_partitions partitions.old aborted.old marks) (partitions_is partitions.new aborted.new result) }
 {
-    match partition_row(s, p, stable) {
-        PartitionRow::Took {
-            index,
-            error,
-            watermark,
-            offset,
-            next: q,
-        } => match aborted_at(s, q, stable, aborted, marks.aborted) {
-            Counted::Took {
-                count,
-                next: u,
-                mark: behind,
-            } => match records_at(s, u) {
-                Part::Took {
-                    start,
-                    len,
-                    used: next,
-                } => {
-                    let row = store7(
-                        partitions,
-                        marks.partitions,
-                        index,
-                        error,
-                        watermark,
-                        offset,
-                        count,
-                        start as u64,
-                        len as u64,
-                    );
-                    Marked::Took {
-                        next,
-                        marks: Marks {
-                            topics: marks.topics,
-                            partitions: row,
-                            aborted: behind,
-                        },
-                    }
-                }
-                Part::Refused(e) => Marked::Refused(e),
-            },
-            Counted::Refused(e) => Marked::Refused(e),
+    let numbers = partition_row(s, p, stable)?;
+    let pairs = aborted_at(s, numbers.next, stable, aborted, marks.aborted)?;
+    let records = records_at(s, pairs.next)?;
+    let row = [
+        numbers.index,
+        numbers.error,
+        numbers.watermark,
+        numbers.offset,
+        pairs.count,
+        records.value.start as u64,
+        records.value.len as u64,
+    ];
+    Ok(Marked {
+        next: records.next,
+        marks: Marks {
+            topics: marks.topics,
+            partitions: store_row(partitions, marks.partitions, row),
+            aborted: pairs.mark,
         },
-        PartitionRow::Refused(e) => Marked::Refused(e),
-    }
+    })
 }
 
 // `count` partitions from place p on.
@@ -129,21 +81,12 @@ pub(crate) fn partitions_in(
     partitions: &mut [u64],
     aborted: &mut [u64],
     marks: Marks,
-) -> Marked
+) -> Result<Marked, Refusal>
     ensures { Runs (λ e. loop count (walk false (partition_shape stable) 2)) s.now p (in_partitions partitions.old aborted.old marks) (partitions_is partitions.new aborted.new result) }
 {
-    let mut next = p;
-    let mut marks = marks;
-    let mut left = count;
-    while 0 < left {
-        left = left - 1;
-        match partition_at(s, next, stable, partitions, aborted, marks) {
-            Marked::Took { next: q, marks: m } => {
-                next = q;
-                marks = m;
-            }
-            Marked::Refused(e) => return Marked::Refused(e),
-        }
+    let mut filled = Marked { next: p, marks };
+    for _ in 0..count {
+        filled = partition_at(s, filled.next, stable, partitions, aborted, filled.marks)?;
     }
-    Marked::Took { next, marks }
+    Ok(filled)
 }

@@ -8,18 +8,11 @@ ghost use Rattle.fetch_response.specs.Answers.{of_measure, of_response_reply, of
 use crate::ResponseReply;
 use crate::body::{Walked, body_at};
 use crate::marks::Marks;
-use body_reading::walks::{Admitted, admit};
-use primitives::{no_room, version_of};
-
-// Whether all tables are large enough, or else the rows that the first too small needs.
-#[derive(Drop)]
-pub enum Room {
-    Enough,
-    Needs(usize),
-}
+use body_reading::walks::admit;
+use primitives::{Refusal, Taken, no_room, version_of};
 
 // A walk whose tables are dropped.
-fn walked(msg: &[u8], v: u64) -> Walked
+fn walked(msg: &[u8], v: u64) -> Result<Walked, Refusal>
     requires { (v ≤ 4) × (length msg.now ≤ 1048576) }
     ensures { of_measure result ≡ metered (seen false Fetch.response (pos v) msg.now) }
 {
@@ -30,29 +23,27 @@ fn walked(msg: &[u8], v: u64) -> Walked
 }
 
 // What a prefix read would say but for room: the body, the bytes used, and the cells of each table.
-pub fn measure(msg: &[u8], version: i64) -> Walked
+pub fn measure(msg: &[u8], version: i64) -> Result<Walked, Refusal>
     ensures { of_measure result ≡ metered (seen false Fetch.response version msg.now) }
 {
-    match admit(version, 4, msg.len()) {
-        Admitted::Version(v) => walked(msg, v),
-        Admitted::Refused(e) => Walked::Refused(e),
-    }
+    let v = admit(version, 4, msg.len())?;
+    walked(msg, v)
 }
 
-// In table order: the cells that there will be, and the cells lent.
-fn room_for(marks: Marks, t: usize, p: usize, a: usize) -> Room
+// The rows that the first table too small needs. In table order: the cells that there will be, and the cells lent.
+fn room_for(marks: Marks, t: usize, p: usize, a: usize) -> Option<usize>
     ensures { of_room result ≡ short (widths Fetch.response) (sizes marks) (t ∷ p ∷ a ∷ []) }
 {
     if t / 3 < marks.topics / 3 {
-        return Room::Needs(marks.topics / 3);
+        return Some(marks.topics / 3);
     }
     if p / 7 < marks.partitions / 7 {
-        return Room::Needs(marks.partitions / 7);
+        return Some(marks.partitions / 7);
     }
     if a / 2 < marks.aborted / 2 {
-        return Room::Needs(marks.aborted / 2);
+        return Some(marks.aborted / 2);
     }
-    Room::Enough
+    None
 }
 
 // A prefix read, as the Rust reads. The tables are left as they were where it refuses, and what is behind the rows filled where it does not.
@@ -65,20 +56,14 @@ pub fn read(
 ) -> ResponseReply
     ensures { (of_response_reply result, topics.new ∷ partitions.new ∷ aborted.new ∷ []) ≡ prefix_read Fetch.response version (topics.old ∷ partitions.old ∷ aborted.old ∷ []) msg.now }
 {
-    match measure(msg, version) {
-        Walked::Took { body, next, marks } => match room_for(
-            marks,
-            topics.len(),
-            partitions.len(),
-            aborted.len(),
-        ) {
-            Room::Enough => {
-                let v = version_of(version);
-                body_at(msg, v, topics, partitions, aborted);
-                ResponseReply::Took { body, used: next }
-            }
-            Room::Needs(rows) => ResponseReply::Refused(no_room(rows)),
-        },
-        Walked::Refused(e) => ResponseReply::Refused(e),
+    let seen = measure(msg, version)?;
+    if let Some(rows) = room_for(seen.marks, topics.len(), partitions.len(), aborted.len()) {
+        return Err(no_room(rows));
     }
+    // The second walk answers what the first did.
+    let _ = body_at(msg, version_of(version), topics, partitions, aborted);
+    Ok(Taken {
+        value: seen.body,
+        next: seen.next,
+    })
 }

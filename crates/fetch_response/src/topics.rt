@@ -8,8 +8,8 @@ ghost use Rattle.fetch_response.specs.TopicWalks.{in_topics, no_marks, topics_is
 use crate::marks::{Marked, Marks};
 use crate::partitions::partitions_in;
 use body_reading::places::{items_at, string_at};
-use body_reading::tables::store3;
-use primitives::{Number, Part};
+use body_reading::tables::store_row;
+use primitives::Refusal;
 
 // One topic into the tables, where there is room.
 fn topic_at(
@@ -20,33 +20,22 @@ fn topic_at(
     partitions: &mut [u64],
     aborted: &mut [u64],
     marks: Marks,
-) -> Marked
+) -> Result<Marked, Refusal>
     ensures { Runs (λ e. walk false (topic_shape stable) 1) s.now p (in_topics topics.old partitions.old aborted.old marks) (topics_is topics.new partitions.new aborted.new result) }
 {
-    match string_at(s, p) {
-        Part::Took {
-            start: name,
-            len,
-            used: q,
-        } => match items_at(s, q, false, false) {
-            Number::Took {
-                value: count,
-                used: u,
-            } => {
-                let stored = Marks {
-                    topics: store3(topics, marks.topics, name as u64, len as u64, count),
-                    partitions: marks.partitions,
-                    aborted: marks.aborted,
-                };
-                partitions_in(s, u, stable, count, partitions, aborted, stored)
-            }
-            Number::Refused(e) => Marked::Refused(e),
-        },
-        Part::Refused(e) => Marked::Refused(e),
-    }
+    let name = string_at(s, p)?;
+    let items = items_at(s, name.next, false, false)?;
+    let count = items.value;
+    let row = [name.value.start as u64, name.value.len as u64, count];
+    let marks = Marks {
+        topics: store_row(topics, marks.topics, row),
+        ..marks
+    };
+    partitions_in(s, items.next, stable, count, partitions, aborted, marks)
 }
 
 // `count` topics from place p on, from the start of the tables on. The bytes end long before a count that they cannot hold.
+// The loops over topics, partitions and aborted transactions stay three: the tables that they fill differ in number, and stand in the promise of each.
 pub(crate) fn topics_in(
     s: &[u8],
     p: usize,
@@ -55,25 +44,27 @@ pub(crate) fn topics_in(
     topics: &mut [u64],
     partitions: &mut [u64],
     aborted: &mut [u64],
-) -> Marked
+) -> Result<Marked, Refusal>
     ensures { Runs (λ e. loop count (walk false (topic_shape stable) 1)) s.now p (in_topics topics.old partitions.old aborted.old no_marks) (topics_is topics.new partitions.new aborted.new result) }
 {
-    let mut next = p;
-    let mut marks = Marks {
-        topics: 0,
-        partitions: 0,
-        aborted: 0,
+    let mut filled = Marked {
+        next: p,
+        marks: Marks {
+            topics: 0,
+            partitions: 0,
+            aborted: 0,
+        },
     };
-    let mut left = count;
-    while 0 < left {
-        left = left - 1;
-        match topic_at(s, next, stable, topics, partitions, aborted, marks) {
-            Marked::Took { next: q, marks: m } => {
-                next = q;
-                marks = m;
-            }
-            Marked::Refused(e) => return Marked::Refused(e),
-        }
+    for _ in 0..count {
+        filled = topic_at(
+            s,
+            filled.next,
+            stable,
+            topics,
+            partitions,
+            aborted,
+            filled.marks,
+        )?;
     }
-    Marked::Took { next, marks }
+    Ok(filled)
 }

@@ -8,8 +8,7 @@ use Rattle.layout.specs.Reading.{ok}
 use Rattle.layout.specs.Frames.{frame_read, frame_size}
 use Rattle.layout.specs.Messages.Headers as Headers
 use Rattle.layout.proofs.Frames.{frame_read_local}
-use Rattle.frame.specs.declared.RequestFrame.{RequestFrame}
-use Rattle.frame.specs.declared.ResponseFrame.{ResponseFrame}
+use Rattle.frame.specs.Answers.{RequestFrame, ResponseFrame}
 use Rattle.frame.proofs.Unique.{request_unique, request_said, response_unique, response_said}
 
 -- a frame of z bytes at the front of s; t follows it in place of the rest

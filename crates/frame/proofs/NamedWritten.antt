@@ -2,7 +2,7 @@
 use mathlib.Core.List.{List, [], ◌++◌, ◌∷◌}
 use mathlib.Core.Logic.{◌≢◌}
 use mathlib.Core.Path.{◌∙◌, ◌≡◌, ap, refl, sym}
-use Prim.Native.Nat.{◌+◌, ◌≤◌, ℕ}
+use Prim.Native.Nat.{◌≤◌, ℕ}
 use native.Mathlib.Omega.{arith}
 use lib.Dec.{leb, lit<}
 use lib.IntN.{ℤ}
@@ -13,7 +13,6 @@ use Rattle.layout.specs.Primitives.{w32}
 use Rattle.layout.specs.Reading.{Refusal}
 use Rattle.layout.specs.Rows.{Shape, end, field, number}
 use Rattle.layout.specs.Tables.{basic_of, pop, value_of, width}
-use Rattle.layout.specs.Write.{fault}
 use Rattle.primitives.specs.Answers.{version_of}
 use Rattle.primitives.specs.declared.Field.{Field}
 use Rattle.primitives.proofs.Versions.{known}
@@ -35,7 +34,7 @@ pub client_alone : (lent : List ℕ) (t : ℕ) (f : Field) → row_fault lent cl
 unfolding row_fault fault_at value_of pop width
 client_alone lent t Field.Absent = refl
 client_alone lent t Field.Null = refl
-client_alone lent t (Field.Present a k) = refl
+client_alone lent t (Field.Present x) = refl
 
 -- the field of a response header
 abbrev pub correlation : Shape

@@ -17,14 +17,14 @@ use Rattle.layout.specs.Answers.{Answer, Message, accepted, judged, most, no_row
 use Rattle.layout.specs.Frames.{Header, frame_read, frame_seen, frame_size, with_size, with_body}
 use Rattle.layout.specs.Messages.Headers as Headers
 use Rattle.layout.specs.Messages.Headers.{request_rows, response_rows}
-use Rattle.primitives.specs.Answers.{of_refusal, version_of}
+use Rattle.std.specs.Prelude.{Err, IsErr, IsErrAnd, Ok, Result}
+use Rattle.primitives.specs.Answers.{Read, of_refusal, version_of}
 use Rattle.primitives.specs.declared.Refusal as Code
-use Rattle.frame.specs.Answers.{of_request, of_response}
-use Rattle.frame.specs.Walks.{of_request_walked, of_response_walked}
-use Rattle.frame.specs.declared.reading.RequestAt.{RequestAt}
-use Rattle.frame.specs.declared.reading.RequestWalked.{RequestWalked}
-use Rattle.frame.specs.declared.reading.ResponseAt.{ResponseAt}
-use Rattle.frame.specs.declared.reading.ResponseWalked.{ResponseWalked}
+use Rattle.primitives.proofs.Up.{up}
+use Rattle.frame.specs.Answers.{of_frame}
+use Rattle.frame.specs.Walks.{of_walked}
+use Rattle.frame.specs.declared.Frame.{Frame}
+use Rattle.frame.specs.declared.reading.HeaderAt.{HeaderAt}
 use Rattle.body_reading.specs.Meter.{lengths, short}
 use Rattle.body_reading.specs.Store.{State, Tab, add, own, put, store, tab}
 use Rattle.body_reading.specs.Walk.{Runs, on, walk}
@@ -237,32 +237,13 @@ module _ (h : Header) (o : Ready h) (z : ℤ) (v : ℕ) (g : v ≡ version_of z)
                 let a : filled (l ∷ []) measured.rows ≡ l₂ ∷ [] = sym (slices_tabs (filled (l ∷ []) measured.rows) (lengths measured.rows)) ∙ x in
                 ap (λ (t : Tables). (accepted row all, t)) (sym a) ∙ fitting (subst (λ (t : List ℕ). k / 3 ≤ length t / 3) (sym same) j)
 
--- ---- what the walks say
+-- ---- for both headers: a refusal that is handed up, and the table that a walk leaves
 
-module _ (l : List ℕ) (r : RequestWalked) (t : Tab) where
-  pub request_took : (a : RequestAt) → r ≡ RequestWalked.Took a → of_request_walked l r t ≡ ok (store t (of_request a.header) ∷ tab l a.mark ∷ []) a.next
-  request_took a e = ap (λ (y : RequestWalked). of_request_walked l y t) e
+module _ {H : Type 0} (row : H → List ℕ) where
+  pub handed : (r : Read (Frame H)) (c : Code.Refusal) → IsErr r × IsErrAnd r (λ d. d ≡ c) → (t : Tables) {o : Answer × Tables} → (refused (of_refusal c), t) ≡ o → (of_frame row r, t) ≡ o
+  handed r c h t d = up (λ y. (of_frame row y, t)) r c h ∙ d
 
-  pub request_no : (c : Code.Refusal) → r ≡ RequestWalked.Refused c → of_request_walked l r t ≡ bad (of_refusal c)
-  request_no c e = ap (λ (y : RequestWalked). of_request_walked l y t) e
-
-module _ (l : List ℕ) (r : ResponseWalked) (t : Tab) where
-  pub response_took : (a : ResponseAt) → r ≡ ResponseWalked.Took a → of_response_walked l r t ≡ ok (store t (of_response a.header) ∷ tab l a.mark ∷ []) a.next
-  response_took a e = ap (λ (y : ResponseWalked). of_response_walked l y t) e
-
-  pub response_no : (c : Code.Refusal) → r ≡ ResponseWalked.Refused c → of_response_walked l r t ≡ bad (of_refusal c)
-  response_no c e = ap (λ (y : ResponseWalked). of_response_walked l y t) e
-
--- ---- the table that a walk leaves
-
--- a row has no table
-no_table : (cs ds l : List ℕ) (k : ℕ) → slices (store (own ds) cs ∷ tab l k ∷ []) ≡ l ∷ []
-no_table cs ds l k = ap (λ (t : Tab). slices (t ∷ tab l k ∷ [])) (store_own cs ds)
-
-pub request_leaves : (ds l : List ℕ) (r : RequestWalked) (x : State) (j : ℕ) → of_request_walked l r (own ds) ≡ ok x j → slices x ≡ l ∷ []
-request_leaves ds l (RequestWalked.Took a) x j e = let b : store (own ds) (of_request a.header) ∷ tab l a.mark ∷ [] ≡ x = cc in sym (ap slices b) ∙ no_table (of_request a.header) ds l a.mark
-request_leaves ds l (RequestWalked.Refused c) x j e = not_ok e
-
-pub response_leaves : (ds l : List ℕ) (r : ResponseWalked) (x : State) (j : ℕ) → of_response_walked l r (own ds) ≡ ok x j → slices x ≡ l ∷ []
-response_leaves ds l (ResponseWalked.Took a) x j e = let b : store (own ds) (of_response a.header) ∷ tab l a.mark ∷ [] ≡ x = cc in sym (ap slices b) ∙ no_table (of_response a.header) ds l a.mark
-response_leaves ds l (ResponseWalked.Refused c) x j e = not_ok e
+  -- a row has no table
+  pub leaves : (ds l : List ℕ) (r : Result (HeaderAt H) Code.Refusal) (x : State) (j : ℕ) → of_walked row l r (own ds) ≡ ok x j → slices x ≡ l ∷ []
+  leaves ds l (Ok a) x j e = let b : store (own ds) (row a.header) ∷ tab l a.mark ∷ [] ≡ x = cc in sym (ap slices b) ∙ ap (λ (t : Tab). slices (t ∷ tab l a.mark ∷ [])) (store_own (row a.header) ds)
+  leaves ds l (Err c) x j e = not_ok e

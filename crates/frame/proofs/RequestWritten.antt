@@ -1,6 +1,7 @@
 -- A request header that is written, part by part, each from the law of its layout: what is refused of it, and its bytes.
 use mathlib.Core.Bool.{Bool, ◌&&◌, and-true, cond, false, true}
 use mathlib.Core.List.{List, [], ◌++◌, ◌∷◌, append_assoc, append-nil}
+use mathlib.Core.Logic.{◌⊎◌, inl, inr}
 use mathlib.Core.Path.{◌∙◌, ◌≡◌, ap, ap₂, refl, sym}
 use Prim.Native.Nat.{◌+◌, ◌-◌, ◌/◌, ◌<◌, ◌^◌, ◌≤◌, min, ℕ}
 use native.Mathlib.Nat.{add-zero}
@@ -17,6 +18,7 @@ use Rattle.layout.specs.Write.{basic_fault, fault, or, sized_fault, too_long, un
 use Rattle.layout.proofs.Proper.{both}
 use Rattle.primitives.proofs.Versions.{between}
 use Rattle.primitives.specs.declared.Field.{Field}
+use Rattle.primitives.specs.declared.Span as Part
 use Rattle.primitives_put.specs.declared.Form.{Form}
 use Rattle.primitives_put.specs.Put.{Put, behind_length, size_of}
 use Rattle.primitives_put.specs.Step.{Capped, cap}
@@ -41,28 +43,22 @@ use Rattle.frame.proofs.Written.{header_put, tags_bytes, tags_clean}
 -- ---- a client name: absent, null, or there
 
 module _ (f : Field) where
-  pub good_absent : f ≡ Field.Absent → (size : ℕ) → true ≡ good_cells size client_field (field_cells f)
+  pub good_none : (f ≡ Field.Absent) ⊎ (f ≡ Field.Null) → (size : ℕ) → true ≡ good_cells size client_field (field_cells f)
   unfolding good_cells good_span
-  good_absent h size = sym (ap (λ (x : Field). good_cells size client_field (field_cells x)) h)
+  good_none (inl h) size = sym (ap (λ (x : Field). good_cells size client_field (field_cells x)) h)
+  good_none (inr h) size = sym (ap (λ (x : Field). good_cells size client_field (field_cells x)) h)
 
-  pub good_null : f ≡ Field.Null → (size : ℕ) → true ≡ good_cells size client_field (field_cells f)
-  unfolding good_cells good_span
-  good_null h size = sym (ap (λ (x : Field). good_cells size client_field (field_cells x)) h)
-
-  pub good_there : {a k : ℕ} → f ≡ Field.Present a k → (size : ℕ) (b : Bool) → b ≡ inside size a k → b ≡ good_cells size client_field (field_cells f)
+  pub good_there : {y : Part.Span} → f ≡ Field.Present y → (size : ℕ) (b : Bool) → b ≡ inside size y.start y.len → b ≡ good_cells size client_field (field_cells f)
   unfolding good_cells good_span
   good_there h size b e = e ∙ sym (ap (λ (x : Field). good_cells size client_field (field_cells x)) h)
 
   module _ (lent : List ℕ) where
-    pub fault_absent : f ≡ Field.Absent → 0 ≡ row_fault lent client_shape (field_cells f)
+    pub fault_none : (f ≡ Field.Absent) ⊎ (f ≡ Field.Null) → 0 ≡ row_fault lent client_shape (field_cells f)
     unfolding row_fault fault_at fault basic_fault sized_fault value_of pop width basic_of span_of or
-    fault_absent h = sym (ap (λ (x : Field). row_fault lent client_shape (field_cells x)) h)
+    fault_none (inl h) = sym (ap (λ (x : Field). row_fault lent client_shape (field_cells x)) h)
+    fault_none (inr h) = sym (ap (λ (x : Field). row_fault lent client_shape (field_cells x)) h)
 
-    pub fault_null : f ≡ Field.Null → 0 ≡ row_fault lent client_shape (field_cells f)
-    unfolding row_fault fault_at fault basic_fault sized_fault value_of pop width basic_of span_of or
-    fault_null h = sym (ap (λ (x : Field). row_fault lent client_shape (field_cells x)) h)
-
-    pub fault_there : {a k : ℕ} → f ≡ Field.Present a k → (x : List ℕ) → x ≡ slice lent (a, k) → (e : ℕ) → e ≡ string_fault x → e ≡ row_fault lent client_shape (field_cells f)
+    pub fault_there : {y : Part.Span} → f ≡ Field.Present y → (x : List ℕ) → x ≡ slice lent (y.start, y.len) → (e : ℕ) → e ≡ string_fault x → e ≡ row_fault lent client_shape (field_cells f)
     unfolding row_fault fault_at fault basic_fault sized_fault too_long value_of pop width basic_of span_of string_fault
     fault_there h x i e d = d ∙ ap string_fault i ∙ sym (ap (λ (y : Field). row_fault lent client_shape (field_cells y)) h ∙ or_none _)
 
@@ -78,7 +74,7 @@ module _ (f : Field) where
       unfolding row_bytes bytes_at write write_basic sized_bytes value_of pop width basic_of span_of
       put_null = null_bytes_lem Field.Null (append-nil _)
 
-      pub put_there : {a k : ℕ} → f ≡ Field.Present a k → (x : List ℕ) → x ≡ slice lent (a, k) → Put (behind_length (size_of Form.Int16) x) d n d' → Capped (row_bytes lent client_shape (field_cells f)) d n d'
+      pub put_there : {y : Part.Span} → f ≡ Field.Present y → (x : List ℕ) → x ≡ slice lent (y.start, y.len) → Put (behind_length (size_of Form.Int16) x) d n d' → Capped (row_bytes lent client_shape (field_cells f)) d n d'
       unfolding row_bytes bytes_at write write_basic sized_bytes value_of pop width basic_of span_of behind_length length_bytes
       put_there h x i p = capped_as (ap (behind_length (size_of Form.Int16)) i ∙ sym (ap (λ (y : Field). row_bytes lent client_shape (field_cells y)) h ∙ append-nil _)) (capped (put_step p))
 
@@ -115,13 +111,13 @@ module _ (h : RequestHeader) (tags : List ℕ) where
     unfolding good_row good_cells good_span width
     own_good Field.Absent = and-true _
     own_good Field.Null = and-true _
-    own_good (Field.Present a k) = ap (λ (z : Bool). inside size a k && z) (and-true _)
+    own_good (Field.Present x) = ap (λ (z : Bool). inside size x.start x.len && z) (and-true _)
 
     own_told : (f : Field) → asked 1 (onto numbers_shape (absent client_field (tags_shape false 1))) (h.request_api_key ∷ h.request_api_version ∷ h.correlation_id ∷ cells f) ≡ count h.tags
     unfolding asked width
     own_told Field.Absent = add-zero (count h.tags)
     own_told Field.Null = add-zero (count h.tags)
-    own_told (Field.Present a k) = add-zero (count h.tags)
+    own_told (Field.Present x) = add-zero (count h.tags)
 
     is_good : good size 1 (shape request.rows 0) st ≡ (good_cells size client_field (field_cells h.client_id) && good size 1 (tags_shape true 1) ((h.tags ∷ []) ∷ tags ∷ []))
     unfolding shape at stands standing tag_rows request_rows kind_of kind_in arrays
@@ -143,7 +139,7 @@ module _ (h : RequestHeader) (tags : List ℕ) where
     unfolding value_of pop width
     client_left Field.Absent = refl
     client_left Field.Null = refl
-    client_left (Field.Present a k) = refl
+    client_left (Field.Present x) = refl
 
     -- ---- 11 and 7
 
@@ -151,7 +147,7 @@ module _ (h : RequestHeader) (tags : List ℕ) where
     unfolding row_fault fault_at value_of pop width
     client_fault Field.Absent = refl
     client_fault Field.Null = refl
-    client_fault (Field.Present a k) = refl
+    client_fault (Field.Present x) = refl
 
     abbrev fits : Bool
     fits = holds w16 h.request_api_key && (holds w16 h.request_api_version && holds w32 h.correlation_id)
@@ -198,7 +194,7 @@ module _ (h : RequestHeader) (tags : List ℕ) where
     unfolding row_bytes bytes_at value_of pop width
     client_bytes Field.Absent = refl
     client_bytes Field.Null = refl
-    client_bytes (Field.Present a k) = refl
+    client_bytes (Field.Present x) = refl
 
     -- the fields that both request headers have
     abbrev fields : List ℕ

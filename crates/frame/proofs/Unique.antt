@@ -9,33 +9,38 @@ use Rattle.layout.specs.Answers.{Answer, accepted, refused}
 use Rattle.layout.specs.Frames.{frame_written}
 use Rattle.layout.specs.Messages.Headers as Headers
 use Rattle.primitives.specs.declared.Field.{Field}
-use Rattle.primitives_put.specs.Answers.{replied}
-use Rattle.primitives_put.specs.declared.Written.{Written}
+use Rattle.std.specs.Prelude.{Err, Ok}
+use Rattle.primitives.specs.Answers.{taken}
+use Rattle.primitives_put.specs.Answers.{Written, replied}
 use Rattle.primitives.proofs.Unique.{refusal_of, unique}
 use Rattle.primitives_put.proofs.Unique.{written_unique}
 use Rattle.body_reading.proofs.Unique.{field_of}
-use Rattle.frame.specs.Answers.{of_request, of_request_frame, of_response, of_response_frame}
-use Rattle.frame.specs.declared.RequestFrame.{RequestFrame}
+use Rattle.frame.specs.Answers.{RequestFrame, ResponseFrame, of_request, of_request_frame, of_response, of_response_frame}
 use Rattle.frame.specs.declared.RequestHeader.{RequestHeader}
-use Rattle.frame.specs.declared.ResponseFrame.{ResponseFrame}
 use Rattle.frame.specs.declared.ResponseHeader.{ResponseHeader}
 
 -- ---- read
 
 abbrev request_of : Answer → RequestFrame
 request_of (accepted cs n) =
-    RequestFrame.Took (record { request_api_key = get_or cs 0 0; request_api_version = get_or cs 1 0; correlation_id = get_or cs 2 0; client_id = field_of (get_or cs 3 0) (get_or cs 4 0) (get_or cs 5 0); tags = get_or cs 6 0 }) (get_or cs 7 0) (get_or cs 8 0) n
-request_of (refused e) = RequestFrame.Refused (refusal_of e)
+    taken
+    (record { header = record { request_api_key = get_or cs 0 0; request_api_version = get_or cs 1 0; correlation_id = get_or cs 2 0; client_id = field_of (get_or cs 3 0) (get_or cs 4 0) (get_or cs 5 0); tags = get_or cs 6 0 }; body = record { start = get_or cs 7 0; len = get_or cs 8 0 } })
+    n
+request_of (refused e) = Err (refusal_of e)
 
 abbrev response_of : Answer → ResponseFrame
-response_of (accepted cs n) = ResponseFrame.Took (record { correlation_id = get_or cs 0 0; tags = get_or cs 1 0 }) (get_or cs 2 0) (get_or cs 3 0) n
-response_of (refused e) = ResponseFrame.Refused (refusal_of e)
+response_of (accepted cs n) = taken (record { header = record { correlation_id = get_or cs 0 0; tags = get_or cs 1 0 }; body = record { start = get_or cs 2 0; len = get_or cs 3 0 } }) n
+response_of (refused e) = Err (refusal_of e)
+
+-- a request's frame with the client name f
+abbrev with_client : (k v c t a n u : ℕ) → Field → RequestFrame
+with_client k v c t a n u f = taken (record { header = record { request_api_key = k; request_api_version = v; correlation_id = c; client_id = f; tags = t }; body = record { start = a; len = n } }) u
 
 -- one client name after the other
-by_client : (k v c t a n u : ℕ) (f : Field) → request_of (of_request_frame (RequestFrame.Took (record { request_api_key = k; request_api_version = v; correlation_id = c; client_id = f; tags = t }) a n u)) ≡ RequestFrame.Took (record { request_api_key = k; request_api_version = v; correlation_id = c; client_id = f; tags = t }) a n u
+by_client : (k v c t a n u : ℕ) (f : Field) → request_of (of_request_frame (with_client k v c t a n u f)) ≡ with_client k v c t a n u f
 by_client k v c t a n u Field.Absent = refl
 by_client k v c t a n u Field.Null = refl
-by_client k v c t a n u (Field.Present b m) = refl
+by_client k v c t a n u (Field.Present x) = refl
 
 abbrev pub request_said : RequestFrame × List ℕ → Answer × Tables
 request_said x = (of_request_frame x.0, x.1 ∷ [])
@@ -44,12 +49,12 @@ abbrev pub response_said : ResponseFrame × List ℕ → Answer × Tables
 response_said x = (of_response_frame x.0, x.1 ∷ [])
 
 request_back : (x : RequestFrame × List ℕ) → (request_of (request_said x).0, get_or (request_said x).1 0 []) ≡ x
-request_back (RequestFrame.Took h a k n, d) = ap (λ (y : RequestFrame). (y, d)) (by_client h.request_api_key h.request_api_version h.correlation_id h.tags a k n h.client_id)
-request_back (RequestFrame.Refused e, d) = refl
+request_back (Ok t, d) = let h = t.value.header in ap (λ (y : RequestFrame). (y, d)) (by_client h.request_api_key h.request_api_version h.correlation_id h.tags t.value.body.start t.value.body.len t.next h.client_id)
+request_back (Err e, d) = refl
 
 response_back : (x : ResponseFrame × List ℕ) → (response_of (response_said x).0, get_or (response_said x).1 0 []) ≡ x
-response_back (ResponseFrame.Took h a k n, d) = refl
-response_back (ResponseFrame.Refused e, d) = refl
+response_back (Ok t, d) = refl
+response_back (Err e, d) = refl
 
 pub request_unique : (o : Answer × Tables) (x y : RequestFrame × List ℕ) → request_said x ≡ o → request_said y ≡ o → x ≡ y
 request_unique = unique request_said (λ (o : Answer × Tables). (request_of o.0, get_or o.1 0 [])) request_back

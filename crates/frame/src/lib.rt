@@ -2,7 +2,7 @@
 // Numbers are cells, as in the tables: 64 bits, two's complement. Places count from the frame's first byte.
 #![tactic(auto)]
 
-use primitives::{Field, Refusal};
+use primitives::{Field, Read, Span};
 
 mod naming;
 mod naming_written;
@@ -31,25 +31,14 @@ pub struct ResponseHeader {
     pub tags: u64,
 }
 
-// Header, the body as a part of what was lent, and the bytes of the whole frame.
-#[derive(Drop)]
-pub enum RequestFrame {
-    Took {
-        header: RequestHeader,
-        start: usize,
-        len: usize,
-        used: usize,
-    },
-    Refused(Refusal),
+// A header, and the body as a part of what was lent.
+#[derive(Clone, Copy)]
+pub struct Frame<H> {
+    pub header: H,
+    pub body: Span,
 }
 
-#[derive(Drop)]
-pub enum ResponseFrame {
-    Took {
-        header: ResponseHeader,
-        start: usize,
-        len: usize,
-        used: usize,
-    },
-    Refused(Refusal),
-}
+// What a reader of frames answers: the place after it is the end of the whole frame.
+pub type RequestFrame = Read<Frame<RequestHeader>>;
+
+pub type ResponseFrame = Read<Frame<ResponseHeader>>;

@@ -8,10 +8,10 @@ ghost use Rattle.primitives.specs.Answers.{of_refusal};
 ghost use Rattle.body_reading.specs.Walk.{on};
 ghost use Rattle.names.specs.Walks.{of_named, of_sought};
 
-use names::fields::{Passed, int16, int32, nullable_string};
+use names::fields::{int16, int32, nullable_string};
 use names::tags::tags_if;
 use names::{
-    Named, REQUEST_HEADER, RESPONSE_HEADER, Sought, is_fieldless, named_by, without_field,
+    Found, Named, REQUEST_HEADER, RESPONSE_HEADER, Sought, is_fieldless, named_by, without_field,
 };
 use primitives::{MINUS_ONE, Refusal};
 
@@ -24,22 +24,10 @@ fn request(frame: &[u8], q: usize, number: u64, begun: &mut [u64]) -> Sought
     ensures { of_sought begun.new result ≡ on (seek q (shape (Headers.request).rows number) nowhere 0 begun.old) frame.now 4 }
 {
     let row = MINUS_ONE;
-    let p = match int16(frame, SIZE, q) {
-        Passed::After(next) => next,
-        Passed::Stopped => return Sought::Found { row, field: 0 },
-    };
-    let p = match int16(frame, p, q) {
-        Passed::After(next) => next,
-        Passed::Stopped => return Sought::Found { row, field: 1 },
-    };
-    let p = match int32(frame, p, q) {
-        Passed::After(next) => next,
-        Passed::Stopped => return Sought::Found { row, field: 2 },
-    };
-    let p = match nullable_string(frame, p, q) {
-        Passed::After(next) => next,
-        Passed::Stopped => return Sought::Found { row, field: 3 },
-    };
+    let p = int16(frame, SIZE, q).ok_or(Found { row, field: 0 })?;
+    let p = int16(frame, p, q).ok_or(Found { row, field: 1 })?;
+    let p = int32(frame, p, q).ok_or(Found { row, field: 2 })?;
+    let p = nullable_string(frame, p, q).ok_or(Found { row, field: 3 })?;
     tags_if(frame, p, q, 2 <= number, TAGS, row, 4, begun)
 }
 
@@ -48,10 +36,7 @@ fn response(frame: &[u8], q: usize, number: u64, begun: &mut [u64]) -> Sought
     ensures { of_sought begun.new result ≡ on (seek q (shape (Headers.response).rows number) nowhere 0 begun.old) frame.now 4 }
 {
     let row = MINUS_ONE;
-    let p = match int32(frame, SIZE, q) {
-        Passed::After(next) => next,
-        Passed::Stopped => return Sought::Found { row, field: 0 },
-    };
+    let p = int32(frame, SIZE, q).ok_or(Found { row, field: 0 })?;
     tags_if(frame, p, q, 1 <= number, TAGS, row, 1, begun)
 }
 

@@ -15,7 +15,7 @@ use crate::writing::client_fault;
 use crate::{RequestHeader, ResponseHeader};
 use body_writing::blames::{Blamed, blamed_by};
 use body_writing::ranges::number_fault;
-use names::{Named, REQUEST_HEADER, RESPONSE_HEADER, is_fieldless, without_field};
+use names::{Found, Named, REQUEST_HEADER, RESPONSE_HEADER, is_fieldless, without_field};
 use primitives::{MINUS_ONE, Refusal};
 
 // The first of the fields that both request headers have whose fault is e.
@@ -23,31 +23,31 @@ fn request_field(e: u8, lent: &[u8], header: RequestHeader) -> Blamed
     ensures { of_blamed none_yet result ≡ row_blame lent.now e front_shape nowhere 0 none_yet (of_request header) }
 {
     if number_fault(header.request_api_key, 32768) == e {
-        return Blamed::Found {
+        return Err(Found {
             row: MINUS_ONE,
             field: 0,
-        };
+        });
     }
     if number_fault(header.request_api_version, 32768) == e {
-        return Blamed::Found {
+        return Err(Found {
             row: MINUS_ONE,
             field: 1,
-        };
+        });
     }
     if number_fault(header.correlation_id, 2147483648) == e {
-        return Blamed::Found {
+        return Err(Found {
             row: MINUS_ONE,
             field: 2,
-        };
+        });
     }
     let client = header.client_id;
     if client_fault(lent, client) == e {
-        return Blamed::Found {
+        return Err(Found {
             row: MINUS_ONE,
             field: 3,
-        };
+        });
     }
-    Blamed::Past
+    Ok(())
 }
 
 // The refusal e of a request header that was to be written, with its name: the same for headers 1 and 2.
@@ -71,10 +71,10 @@ pub(crate) fn response_name(e: Refusal, header: ResponseHeader) -> Named
         return blamed_by(
             e,
             RESPONSE_HEADER,
-            Blamed::Found {
+            Err(Found {
                 row: MINUS_ONE,
                 field: 0,
-            },
+            }),
         );
     }
     without_field(e, RESPONSE_HEADER)

@@ -1,8 +1,8 @@
--- From what a library's call promises of its enum to the numbers that an entry point hands back, with the tables or the output.
-use mathlib.Core.Bool.{Bool}
+-- From what a library's call promises to the numbers that an entry point hands back, with the tables or the output.
+use mathlib.Core.Bool.{Bool, false, true}
 use mathlib.Core.List.{List, ◌∷◌}
-use mathlib.Core.Path.{◌∙◌, ◌≡◌, ap, ap₂, sym}
-use Prim.Native.Nat.{ℕ}
+use mathlib.Core.Path.{◌∙◌, ◌≡◌, ap, ap₂, refl, sym}
+use Prim.Native.Nat.{suc, zero, ℕ}
 use lib.IntN.{ℤ}
 use mir.Facts.{to_z-of_z}
 use mir.Syntax.{w64}
@@ -10,8 +10,16 @@ use mir.Val.{SFits, of_z, to_z}
 use Rattle.layout.specs.Tables.{Tables}
 use Rattle.layout.specs.Answers.{Answer, Message, prefix_read, read_answer, whole_read, write_answer}
 use Rattle.primitives.specs.Answers.{is_set}
-use Rattle.primitives.proofs.Versions.{set, unset}
 use Rattle.gateway.specs.Replies.{told}
+
+unset : (n : ℕ) → n ≡ 0 → is_set n ≡ false
+unfolding is_set
+unset n e = ap is_set e
+
+set : (n : ℕ) → (n ≡ 0 → ⊥) → is_set n ≡ true
+unfolding is_set
+set zero h = absurd (h refl)
+set (suc n) h = refl
 
 module _ {N : Type 0} (f : Answer → N) (r : N) (a : Answer) (e : r ≡ f a) where
   pub told_by : {A : Type 0} (x : A) (o : Answer × A) → (a, x) ≡ o → (r, x) ≡ told f o

@@ -15,7 +15,7 @@ use primitives_put::Written;
 
 // What every answer begins with, and that of a writer is: `used` bytes were read or written.
 #[repr(C)]
-#[derive(Drop)]
+#[derive(Clone, Copy)]
 pub struct Numbers {
     pub number: u64,
     pub place: u64,
@@ -51,7 +51,7 @@ pub fn written(w: Written) -> Numbers
     ensures { result ≡ numbers (of_written w) }
 {
     match w {
-        Written::Wrote(n) => accepted(n),
-        Written::Refused(e) => refused(e),
+        Ok(n) => accepted(n),
+        Err(e) => refused(e),
     }
 }

@@ -5,9 +5,11 @@ pub mod agreement;
 pub mod request;
 pub mod response;
 
+// The C interface: a kind beside its number, and number, place and need beside the rest, as the theorems of `demands` name them (Demand1.read_api_versions_response).
+
 // An ApiVersions response: `kind` is 0 where there is no throttle time and 2 where there is one; `tags` is the cell of -1 where they are absent.
 #[repr(C)]
-#[derive(Drop)]
+#[derive(Clone, Copy)]
 pub struct ResponseNumbers {
     pub number: u64,
     pub place: u64,
@@ -22,7 +24,7 @@ pub struct ResponseNumbers {
 
 // An ApiVersions request: of the client's name and of its version a kind, 0 where it is absent and 2 where it is a part of the message, start and length.
 #[repr(C)]
-#[derive(Drop)]
+#[derive(Clone, Copy)]
 pub struct RequestNumbers {
     pub number: u64,
     pub place: u64,

@@ -7,16 +7,17 @@ ghost use Rattle.gateway.specs.Replies.{numbers, told};
 ghost use Rattle.gateway_api_versions.specs.Replies.{request_numbers, request_row, text_row};
 
 use crate::RequestNumbers;
-use api_versions_request::{RequestBody, RequestReply, Text};
+use api_versions_request::{RequestBody, Text};
 use gateway::{Numbers, written};
+use primitives::{Read, Span, Taken};
 
 // 0 for a text that is absent, 2 for one that is there.
 fn kind(t: Text) -> u64
     ensures { result ≡ get_or (of_text t) 0 0 }
 {
     match t {
-        Text::Absent => 0,
-        Text::Present { start: _, len: _ } => 2,
+        None => 0,
+        Some(_) => 2,
     }
 }
 
@@ -24,8 +25,8 @@ fn start(t: Text) -> u64
     ensures { result ≡ get_or (of_text t) 1 0 }
 {
     match t {
-        Text::Absent => 0,
-        Text::Present { start, len: _ } => start as u64,
+        None => 0,
+        Some(part) => part.start as u64,
     }
 }
 
@@ -33,8 +34,8 @@ fn length(t: Text) -> u64
     ensures { result ≡ get_or (of_text t) 2 0 }
 {
     match t {
-        Text::Absent => 0,
-        Text::Present { start: _, len } => len as u64,
+        None => 0,
+        Some(part) => part.len as u64,
     }
 }
 
@@ -59,12 +60,12 @@ fn accepted(body: RequestBody, used: usize) -> RequestNumbers
 }
 
 // What a reader answers, as numbers.
-fn reply(r: RequestReply) -> RequestNumbers
+fn reply(r: Read<RequestBody>) -> RequestNumbers
     ensures { result ≡ request_numbers (of_request_reply r) }
 {
     match r {
-        RequestReply::Took { body, used } => accepted(body, used),
-        RequestReply::Refused(e) => RequestNumbers {
+        Ok(Taken { value, next }) => accepted(value, next),
+        Err(e) => RequestNumbers {
             number: e.number as u64,
             place: e.place as u64,
             need: e.need as u64,
@@ -97,12 +98,12 @@ fn text_of(kind: u64, start: u64, length: u64) -> Text
     ensures { of_text result ≡ text_row kind start length }
 {
     if kind == 0 {
-        return Text::Absent;
+        return None;
     }
-    Text::Present {
+    Some(Span {
         start: start as usize,
         len: length as usize,
-    }
+    })
 }
 
 fn body_of(row: &[u64; 7]) -> RequestBody

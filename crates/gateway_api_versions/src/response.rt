@@ -8,14 +8,14 @@ ghost use Rattle.gateway.specs.Replies.{numbers, told};
 ghost use Rattle.gateway_api_versions.specs.Replies.{response_numbers, response_row};
 
 use crate::ResponseNumbers;
-use api_versions_response::{ResponseBody, ResponseReply};
+use api_versions_response::ResponseBody;
 use body_reading::cells::{given, kind, of_row};
 use gateway::{Numbers, written};
+use primitives::{Read, Taken};
 
 fn accepted(body: ResponseBody, used: usize) -> ResponseNumbers
     ensures { result ≡ response_numbers (accepted (of_response body) used) }
 {
-    let throttle = body.throttle;
     ResponseNumbers {
         number: 0,
         place: 0,
@@ -23,19 +23,19 @@ fn accepted(body: ResponseBody, used: usize) -> ResponseNumbers
         used: used as u64,
         error: body.error,
         items: body.items,
-        kind: kind(throttle),
-        throttle: given(throttle, 0),
+        kind: kind(body.throttle),
+        throttle: given(body.throttle, 0),
         tags: body.tags,
     }
 }
 
 // What a reader answers, as numbers.
-fn reply(r: ResponseReply) -> ResponseNumbers
+fn reply(r: Read<ResponseBody>) -> ResponseNumbers
     ensures { result ≡ response_numbers (of_response_reply r) }
 {
     match r {
-        ResponseReply::Took { body, used } => accepted(body, used),
-        ResponseReply::Refused(e) => ResponseNumbers {
+        Ok(Taken { value, next }) => accepted(value, next),
+        Err(e) => ResponseNumbers {
             number: e.number as u64,
             place: e.place as u64,
             need: e.need as u64,

@@ -1,15 +1,14 @@
 -- What the entry points for Fetch hand back: for each answer of the definitions the numbers of the struct, as in gateway/specs/Replies.antt.
 -- Assumes nothing.
 use Rattle.std.specs.Prelude.{List, [], ◌++◌, ◌∷◌, ℕ, get_or}
-use Rattle.layout.specs.Answers.{Answer, accepted, refused}
+use Rattle.layout.specs.Answers.{Answer}
 use Rattle.body_reading.specs.Cells.{versioned_row}
-use Rattle.gateway.specs.Replies.{numbers}
+use Rattle.gateway.specs.Replies.{numbers, row_of}
 use Rattle.gateway_fetch.specs.declared.FetchNumbers.{FetchNumbers}
 
 -- the own row is throttle time (kind, number), number of topics
 abbrev pub fetch_numbers : Answer → FetchNumbers
-fetch_numbers (accepted cs n) = record { answer = numbers (accepted cs n); timed = get_or cs 0 0; throttle = get_or cs 1 0; topics = get_or cs 2 0 }
-fetch_numbers (refused e) = record { answer = numbers (refused e); timed = 0; throttle = 0; topics = 0 }
+fetch_numbers a = record { answer = numbers a; timed = get_or (row_of a) 0 0; throttle = get_or (row_of a) 1 0; topics = get_or (row_of a) 2 0 }
 
 -- the row that a caller lends: replica, max wait, min bytes, max bytes (kind, number), isolation level (kind, number), number of topics
 unfoldable pub request_row : List ℕ → List ℕ

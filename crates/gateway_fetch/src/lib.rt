@@ -7,8 +7,9 @@ pub mod request;
 pub mod response;
 
 // A Fetch response: `timed` is 0 where there is no throttle time and 2 where there is one.
+// A kind beside its number: the C interface.
 #[repr(C)]
-#[derive(Drop)]
+#[derive(Clone, Copy)]
 pub struct FetchNumbers {
     pub answer: Numbers,
     pub timed: u64,

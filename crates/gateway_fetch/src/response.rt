@@ -13,11 +13,10 @@ use fetch_response::{ResponseBody, ResponseReply};
 fn accepted(body: ResponseBody, used: usize) -> FetchNumbers
     ensures { result ≡ fetch_numbers (accepted (of_response body) used) }
 {
-    let throttle = body.throttle;
     FetchNumbers {
         answer: gateway::accepted(used),
-        timed: cells::kind(throttle),
-        throttle: cells::given(throttle, 0),
+        timed: cells::kind(body.throttle),
+        throttle: cells::given(body.throttle, 0),
         topics: body.topics,
     }
 }
@@ -27,8 +26,8 @@ fn reply(r: ResponseReply) -> FetchNumbers
     ensures { result ≡ fetch_numbers (of_response_reply r) }
 {
     match r {
-        ResponseReply::Took { body, used } => accepted(body, used),
-        ResponseReply::Refused(e) => FetchNumbers {
+        Ok(taken) => accepted(taken.value, taken.next),
+        Err(e) => FetchNumbers {
             answer: gateway::refused(e),
             timed: 0,
             throttle: 0,

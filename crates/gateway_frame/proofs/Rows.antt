@@ -62,7 +62,7 @@ module _ (y v c g b m : ℕ) where
     by_client : (f : Field) → request (numbers (accepted [] u)) (get_or (field_cells f) 0 0) (get_or (field_cells f) 1 0) (get_or (field_cells f) 2 0) ≡ request_frame_numbers (accepted ((y ∷ v ∷ c ∷ (field_cells f ++ (g ∷ []))) ++ (b ∷ m ∷ [])) u)
     by_client Field.Absent = refl
     by_client Field.Null = refl
-    by_client (Field.Present a n) = refl
+    by_client (Field.Present x) = refl
 
     pub client_told : (f : Field) (r : Numbers) (k s l : ℕ) → r ≡ numbers (accepted [] u) → k ≡ get_or (field_cells f) 0 0 → s ≡ get_or (field_cells f) 1 0 → l ≡ get_or (field_cells f) 2 0 →
         request r k s l ≡ request_frame_numbers (accepted ((y ∷ v ∷ c ∷ (field_cells f ++ (g ∷ []))) ++ (b ∷ m ∷ [])) u)

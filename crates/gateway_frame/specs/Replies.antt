@@ -1,22 +1,19 @@
 -- What the entry points for frames hand back: for each answer of the definitions the numbers of the struct, as in gateway/specs/Replies.antt.
 -- Assumes nothing.
 use Rattle.std.specs.Prelude.{List, [], ◌∷◌, ◌++◌, ℕ, zero, suc, get_or}
-use Rattle.layout.specs.Answers.{Answer, accepted, refused}
-use Rattle.gateway.specs.Replies.{numbers}
+use Rattle.layout.specs.Answers.{Answer}
+use Rattle.gateway.specs.Replies.{numbers, row_of}
 use Rattle.gateway_frame.specs.declared.RequestFrameNumbers.{RequestFrameNumbers}
 use Rattle.gateway_frame.specs.declared.ResponseFrameNumbers.{ResponseFrameNumbers}
 
 -- the row is API key, version, correlation number, client name (kind, start, length), number of tags, and start and length of the body
 abbrev pub request_frame_numbers : Answer → RequestFrameNumbers
-request_frame_numbers (accepted cs n) =
-    record { answer = numbers (accepted cs n); request_api_key = get_or cs 0 0; request_api_version = get_or cs 1 0; correlation_id = get_or cs 2 0; client_id_kind = get_or cs 3 0; client_id_start = get_or cs 4 0; client_id_length = get_or cs 5 0; tags = get_or cs 6 0; body_start = get_or cs 7 0; body_length = get_or cs 8 0 }
-request_frame_numbers (refused e) =
-    record { answer = numbers (refused e); request_api_key = 0; request_api_version = 0; correlation_id = 0; client_id_kind = 0; client_id_start = 0; client_id_length = 0; tags = 0; body_start = 0; body_length = 0 }
+request_frame_numbers a =
+    record { answer = numbers a; request_api_key = get_or (row_of a) 0 0; request_api_version = get_or (row_of a) 1 0; correlation_id = get_or (row_of a) 2 0; client_id_kind = get_or (row_of a) 3 0; client_id_start = get_or (row_of a) 4 0; client_id_length = get_or (row_of a) 5 0; tags = get_or (row_of a) 6 0; body_start = get_or (row_of a) 7 0; body_length = get_or (row_of a) 8 0 }
 
 -- the row is correlation number, number of tags, and start and length of the body
 abbrev pub response_frame_numbers : Answer → ResponseFrameNumbers
-response_frame_numbers (accepted cs n) = record { answer = numbers (accepted cs n); correlation_id = get_or cs 0 0; tags = get_or cs 1 0; body_start = get_or cs 2 0; body_length = get_or cs 3 0 }
-response_frame_numbers (refused e) = record { answer = numbers (refused e); correlation_id = 0; tags = 0; body_start = 0; body_length = 0 }
+response_frame_numbers a = record { answer = numbers a; correlation_id = get_or (row_of a) 0 0; tags = get_or (row_of a) 1 0; body_start = get_or (row_of a) 2 0; body_length = get_or (row_of a) 3 0 }
 
 -- ---- rows that a caller lends
 

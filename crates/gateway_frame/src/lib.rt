@@ -9,7 +9,7 @@ pub mod response;
 
 // A frame with a request header: of the client name a kind, 1 where it is null and 2 where it is a part of the frame, start and length; `tags` is the cell of -1 where the header has none; start and length of the body.
 #[repr(C)]
-#[derive(Drop)]
+#[derive(Clone, Copy)]
 pub struct RequestFrameNumbers {
     pub answer: Numbers,
     pub request_api_key: u64,
@@ -25,7 +25,7 @@ pub struct RequestFrameNumbers {
 
 // A frame with a response header.
 #[repr(C)]
-#[derive(Drop)]
+#[derive(Clone, Copy)]
 pub struct ResponseFrameNumbers {
     pub answer: Numbers,
     pub correlation_id: u64,

@@ -10,13 +10,14 @@ ghost use Rattle.gateway_frame.specs.Replies.{client_row, request_frame_numbers,
 
 use crate::RequestFrameNumbers;
 use body_reading::cells;
-use frame::{RequestFrame, RequestHeader};
+use frame::{Frame, RequestFrame, RequestHeader};
 use gateway::{Numbers, written};
-use primitives::Field;
+use primitives::{Field, Span, Taken};
 
-fn accepted(header: RequestHeader, body: usize, len: usize, used: usize) -> RequestFrameNumbers
-    ensures { result ≡ request_frame_numbers (accepted (of_request header ++ (body ∷ len ∷ [])) used) }
+fn accepted(frame: Frame<RequestHeader>, used: usize) -> RequestFrameNumbers
+    ensures { result ≡ request_frame_numbers (accepted (of_request frame.header ++ (frame.body.start ∷ frame.body.len ∷ [])) used) }
 {
+    let header = frame.header;
     let client = header.client_id;
     RequestFrameNumbers {
         answer: gateway::accepted(used),
@@ -27,8 +28,8 @@ fn accepted(header: RequestHeader, body: usize, len: usize, used: usize) -> Requ
         client_id_start: cells::field_start(client),
         client_id_length: cells::field_length(client),
         tags: header.tags,
-        body_start: body as u64,
-        body_length: len as u64,
+        body_start: frame.body.start as u64,
+        body_length: frame.body.len as u64,
     }
 }
 
@@ -37,13 +38,8 @@ fn reply(r: RequestFrame) -> RequestFrameNumbers
     ensures { result ≡ request_frame_numbers (of_request_frame r) }
 {
     match r {
-        RequestFrame::Took {
-            header,
-            start: body,
-            len,
-            used,
-        } => accepted(header, body, len, used),
-        RequestFrame::Refused(e) => RequestFrameNumbers {
+        Ok(Taken { value, next }) => accepted(value, next),
+        Err(e) => RequestFrameNumbers {
             answer: gateway::refused(e),
             request_api_key: 0,
             request_api_version: 0,
@@ -70,15 +66,13 @@ pub fn befrolan_read_request_frame(msg: &[u8], header: i64, tags: &mut [u64]) ->
 fn client_of(kind: u64, start: u64, length: u64) -> Field
     ensures { field_cells result ≡ client_row kind start length }
 {
-    if kind == 0 {
-        return Field::Absent;
-    }
-    if kind == 1 {
-        return Field::Null;
-    }
-    Field::Present {
-        start: start as usize,
-        len: length as usize,
+    match kind {
+        0 => Field::Absent,
+        1 => Field::Null,
+        _ => Field::Present(Span {
+            start: start as usize,
+            len: length as usize,
+        }),
     }
 }
 

@@ -9,25 +9,21 @@ ghost use Rattle.gateway_frame.specs.Replies.{response_frame_numbers, response_r
 use crate::ResponseFrameNumbers;
 use frame::{ResponseFrame, ResponseHeader};
 use gateway::{Numbers, written};
+use primitives::Taken;
 
 // What a reader answers, as numbers.
 fn reply(r: ResponseFrame) -> ResponseFrameNumbers
     ensures { result ≡ response_frame_numbers (of_response_frame r) }
 {
     match r {
-        ResponseFrame::Took {
-            header,
-            start,
-            len,
-            used,
-        } => ResponseFrameNumbers {
-            answer: gateway::accepted(used),
-            correlation_id: header.correlation_id,
-            tags: header.tags,
-            body_start: start as u64,
-            body_length: len as u64,
+        Ok(Taken { value, next }) => ResponseFrameNumbers {
+            answer: gateway::accepted(next),
+            correlation_id: value.header.correlation_id,
+            tags: value.header.tags,
+            body_start: value.body.start as u64,
+            body_length: value.body.len as u64,
         },
-        ResponseFrame::Refused(e) => ResponseFrameNumbers {
+        Err(e) => ResponseFrameNumbers {
             answer: gateway::refused(e),
             correlation_id: 0,
             tags: 0,

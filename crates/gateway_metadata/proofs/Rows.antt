@@ -12,7 +12,8 @@ use Rattle.layout.specs.Lookup.{Host, lookup}
 use Rattle.layout.specs.Reading.{Refusal}
 use Rattle.primitives.specs.declared.Field.{Field}
 use Rattle.body_reading.specs.Cells.{field_cells, given, versioned_cells}
-use Rattle.body_reading.specs.declared.versioned.Versioned.{Versioned}
+use Rattle.std.specs.Prelude.{Bool, cond, Option, Some, None}
+use Rattle.primitives.specs.Answers.{is_set}
 use Rattle.gateway.specs.Replies.{numbers}
 use Rattle.gateway.specs.declared.Numbers.{Numbers}
 use Rattle.gateway_metadata.specs.Replies.{creation_row, host_numbers, metadata_numbers}
@@ -26,23 +27,14 @@ module _ (k b : ℕ) where
   unfolding creation_row
   unset_row e = ap (λ (j : ℕ). creation_row j b) (sym e)
 
-  module _ (h : k ≡ 0 → ⊥) where
-    pub false_row : b ≡ 0 → 2 ∷ 0 ∷ [] ≡ creation_row k b
-    unfolding creation_row
-    false_row e = go k h ∙ ap (creation_row k) (sym e)
-      where
-        go : (k : ℕ) → (k ≡ 0 → ⊥) → 2 ∷ 0 ∷ [] ≡ creation_row k 0
-        go zero f = absurd (f refl)
-        go (suc j) f = refl
-
-    pub true_row : (b ≡ 0 → ⊥) → 2 ∷ 1 ∷ [] ≡ creation_row k b
-    unfolding creation_row
-    true_row g = go k b h g
-      where
-        go : (k b : ℕ) → (k ≡ 0 → ⊥) → (b ≡ 0 → ⊥) → 2 ∷ 1 ∷ [] ≡ creation_row k b
-        go zero b f i = absurd (f refl)
-        go (suc j) zero f i = absurd (i refl)
-        go (suc j) (suc a) f i = refl
+  pub set_row : (k ≡ 0 → ⊥) → (f : Bool) → f ≡ is_set b → 2 ∷ cond f 1 0 ∷ [] ≡ creation_row k b
+  unfolding creation_row is_set
+  set_row h f e = ap (λ (x : Bool). 2 ∷ cond x 1 0 ∷ []) e ∙ go k b h
+    where
+      go : (k b : ℕ) → (k ≡ 0 → ⊥) → 2 ∷ cond (is_set b) 1 0 ∷ [] ≡ creation_row k b
+      go zero b g = absurd (g refl)
+      go (suc j) zero g = refl
+      go (suc j) (suc a) g = refl
 
 -- ---- a response that was read: the cells of its fields, one behind the other
 
@@ -51,23 +43,23 @@ module _ (b k : ℕ) where
   shown r a c d e g h i = record { answer = r; timed = a; throttle = c; brokers = b; clustered = d; cstart = e; clength = g; controlled = h; controller = i; topics = k }
 
   module _ (n : ℕ) where
-    by_fields : (t : Versioned) (f : Field) (o : Versioned) →
+    by_fields : (t : Option ℕ) (f : Field) (o : Option ℕ) →
         shown (numbers (accepted [] n)) (get_or (versioned_cells t) 0 0) (given 0 t) (get_or (field_cells f) 0 0) (get_or (field_cells f) 1 0) (get_or (field_cells f) 2 0) (get_or (versioned_cells o) 0 0) (given 0 o)
         ≡ metadata_numbers (accepted (versioned_cells t ++ (b ∷ (field_cells f ++ (versioned_cells o ++ (k ∷ []))))) n)
-    by_fields Versioned.Absent Field.Absent Versioned.Absent = refl
-    by_fields Versioned.Absent Field.Absent (Versioned.Present y) = refl
-    by_fields Versioned.Absent Field.Null Versioned.Absent = refl
-    by_fields Versioned.Absent Field.Null (Versioned.Present y) = refl
-    by_fields Versioned.Absent (Field.Present p q) Versioned.Absent = refl
-    by_fields Versioned.Absent (Field.Present p q) (Versioned.Present y) = refl
-    by_fields (Versioned.Present x) Field.Absent Versioned.Absent = refl
-    by_fields (Versioned.Present x) Field.Absent (Versioned.Present y) = refl
-    by_fields (Versioned.Present x) Field.Null Versioned.Absent = refl
-    by_fields (Versioned.Present x) Field.Null (Versioned.Present y) = refl
-    by_fields (Versioned.Present x) (Field.Present p q) Versioned.Absent = refl
-    by_fields (Versioned.Present x) (Field.Present p q) (Versioned.Present y) = refl
+    by_fields None Field.Absent None = refl
+    by_fields None Field.Absent (Some y) = refl
+    by_fields None Field.Null None = refl
+    by_fields None Field.Null (Some y) = refl
+    by_fields None (Field.Present p) None = refl
+    by_fields None (Field.Present p) (Some y) = refl
+    by_fields (Some x) Field.Absent None = refl
+    by_fields (Some x) Field.Absent (Some y) = refl
+    by_fields (Some x) Field.Null None = refl
+    by_fields (Some x) Field.Null (Some y) = refl
+    by_fields (Some x) (Field.Present p) None = refl
+    by_fields (Some x) (Field.Present p) (Some y) = refl
 
-    module _ (t : Versioned) (f : Field) (o : Versioned) where
+    module _ (t : Option ℕ) (f : Field) (o : Option ℕ) where
       pub fields_told :
           (r : Numbers) (a c d e g h i : ℕ) → r ≡ numbers (accepted [] n) → a ≡ get_or (versioned_cells t) 0 0 → c ≡ given 0 t → d ≡ get_or (field_cells f) 0 0 → e ≡ get_or (field_cells f) 1 0 → g ≡ get_or (field_cells f) 2 0 → h ≡ get_or (versioned_cells o) 0 0 → i ≡ given 0 o
           → shown r a c d e g h i ≡ metadata_numbers (accepted (versioned_cells t ++ (b ∷ (field_cells f ++ (versioned_cells o ++ (k ∷ []))))) n)

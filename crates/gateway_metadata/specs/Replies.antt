@@ -1,37 +1,25 @@
 -- What the entry points for Metadata hand back: for each answer of the definitions the numbers of the struct, as in gateway/specs/Replies.antt.
 -- Assumes nothing.
 use Rattle.std.specs.Prelude.{List, [], ◌∷◌, ℕ, zero, suc, get_or}
-use Rattle.layout.specs.Answers.{Answer, accepted, refused}
+use Rattle.layout.specs.Answers.{Answer}
 use Rattle.layout.specs.Lookup as Lookup
-use Rattle.gateway.specs.Replies.{numbers}
+use Rattle.gateway.specs.Replies.{numbers, row_of}
 use Rattle.gateway_metadata.specs.declared.HostNumbers.{HostNumbers}
 use Rattle.gateway_metadata.specs.declared.MetadataNumbers.{MetadataNumbers}
 
 -- the own row is throttle time (kind, number), number of brokers, cluster (kind, start, length), controller (kind, number), number of topics
 abbrev pub metadata_numbers : Answer → MetadataNumbers
-metadata_numbers (accepted cs n) = record {
-  answer = numbers (accepted cs n);
-  timed = get_or cs 0 0;
-  throttle = get_or cs 1 0;
-  brokers = get_or cs 2 0;
-  clustered = get_or cs 3 0;
-  cstart = get_or cs 4 0;
-  clength = get_or cs 5 0;
-  controlled = get_or cs 6 0;
-  controller = get_or cs 7 0;
-  topics = get_or cs 8 0;
-}
-metadata_numbers (refused e) = record {
-  answer = numbers (refused e);
-  timed = 0;
-  throttle = 0;
-  brokers = 0;
-  clustered = 0;
-  cstart = 0;
-  clength = 0;
-  controlled = 0;
-  controller = 0;
-  topics = 0;
+metadata_numbers a = record {
+  answer = numbers a;
+  timed = get_or (row_of a) 0 0;
+  throttle = get_or (row_of a) 1 0;
+  brokers = get_or (row_of a) 2 0;
+  clustered = get_or (row_of a) 3 0;
+  cstart = get_or (row_of a) 4 0;
+  clength = get_or (row_of a) 5 0;
+  controlled = get_or (row_of a) 6 0;
+  controller = get_or (row_of a) 7 0;
+  topics = get_or (row_of a) 8 0;
 }
 
 -- an empty host is found, with length 0

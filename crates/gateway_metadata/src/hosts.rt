@@ -11,15 +11,15 @@ fn reply(h: Host) -> HostNumbers
     ensures { result ≡ host_numbers (of_host h) }
 {
     match h {
-        Host::Found { start, len } => HostNumbers {
+        Ok(Some(part)) => HostNumbers {
             number: 0,
             place: 0,
             need: 0,
             found: 1,
-            start: start as u64,
-            length: len as u64,
+            start: part.start as u64,
+            length: part.len as u64,
         },
-        Host::Unknown => HostNumbers {
+        Ok(None) => HostNumbers {
             number: 0,
             place: 0,
             need: 0,
@@ -27,7 +27,7 @@ fn reply(h: Host) -> HostNumbers
             start: 0,
             length: 0,
         },
-        Host::Refused(e) => HostNumbers {
+        Err(e) => HostNumbers {
             number: e.number as u64,
             place: e.place as u64,
             need: e.need as u64,
@@ -39,6 +39,7 @@ fn reply(h: Host) -> HostNumbers
 }
 
 // `node` is a cell, as in the table of brokers.
+#[tactic(auto, using(crate::proofs::Rows::host_told))]
 pub fn befrolan_find_host(msg: &[u8], version: i64, node: u64) -> HostNumbers
     ensures { result ≡ host_numbers (lookup node version msg.now) }
 {

@@ -7,21 +7,21 @@ ghost use Rattle.gateway.specs.Replies.{numbers, told};
 ghost use Rattle.gateway_metadata.specs.Replies.{creation_row, request_row};
 
 use gateway::{Numbers, written};
-use metadata_request::{Creation, RequestBody};
+use metadata_request::RequestBody;
+use primitives::is_set;
 
 // Kind 0 is unset, any other set; flag 0 is false, any other true.
-fn creation_of(kind: u64, flag: u64) -> Creation
+#[tactic(auto, using(crate::proofs::Rows::set_row, crate::proofs::Rows::unset_row))]
+fn creation_of(kind: u64, flag: u64) -> Option<bool>
     ensures { of_creation result ≡ creation_row kind flag }
 {
     if kind == 0 {
-        return Creation::Unset;
+        return None;
     }
-    if flag == 0 {
-        return Creation::Set(false);
-    }
-    Creation::Set(true)
+    Some(is_set(flag))
 }
 
+#[tactic(auto, unfolding(crate::specs::Replies::request_row))]
 fn body_of(row: &[u64; 3]) -> RequestBody
     ensures { of_request result ≡ request_row row.now }
 {

@@ -10,22 +10,20 @@ use crate::MetadataNumbers;
 use body_reading::cells;
 use metadata_response::{ResponseBody, ResponseReply};
 
+#[tactic(auto, using(crate::proofs::Rows::fields_told))]
 fn accepted(body: ResponseBody, used: usize) -> MetadataNumbers
     ensures { result ≡ metadata_numbers (accepted (of_response body) used) }
 {
-    let throttle = body.throttle;
-    let cluster = body.cluster;
-    let controller = body.controller;
     MetadataNumbers {
         answer: gateway::accepted(used),
-        timed: cells::kind(throttle),
-        throttle: cells::given(throttle, 0),
+        timed: cells::kind(body.throttle),
+        throttle: cells::given(body.throttle, 0),
         brokers: body.brokers,
-        clustered: cells::field_kind(cluster),
-        cstart: cells::field_start(cluster),
-        clength: cells::field_length(cluster),
-        controlled: cells::kind(controller),
-        controller: cells::given(controller, 0),
+        clustered: cells::field_kind(body.cluster),
+        cstart: cells::field_start(body.cluster),
+        clength: cells::field_length(body.cluster),
+        controlled: cells::kind(body.controller),
+        controller: cells::given(body.controller, 0),
         topics: body.topics,
     }
 }
@@ -35,8 +33,8 @@ fn reply(r: ResponseReply) -> MetadataNumbers
     ensures { result ≡ metadata_numbers (of_response_reply r) }
 {
     match r {
-        ResponseReply::Took { body, used } => accepted(body, used),
-        ResponseReply::Refused(e) => MetadataNumbers {
+        Ok(taken) => accepted(taken.value, taken.next),
+        Err(e) => MetadataNumbers {
             answer: gateway::refused(e),
             timed: 0,
             throttle: 0,

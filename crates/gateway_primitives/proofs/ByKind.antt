@@ -3,26 +3,26 @@ use mathlib.Core.Bool.{Bool, false, true}
 use mathlib.Core.List.{List, [], ◌∷◌}
 use mathlib.Core.Option.{Option, none}
 use mathlib.Core.Path.{◌∙◌, ◌≡◌, ap, refl, sym}
-use Prim.Native.Nat.{◌+◌, ◌-◌, ◌<◌, ◌^◌, ◌≤◌, suc, zero, ℕ}
-use native.Mathlib.Numerals.{add-one}
+use Prim.Native.Nat.{◌<◌, ◌^◌, ◌≤◌, suc, zero, ℕ}
 use native.Mathlib.Omega.{arith}
 use lib.IntN.{ℤ}
 use lib.ListN.{get_elem?, length}
 use lib.Dec.{ltb}
-use mir.Facts.{to_z-of_z}
 use mir.Syntax.{w64}
-use mir.Val.{SFits, of_z, to_z}
+use mir.Val.{of_z, to_z}
 use Rattle.layout.specs.Reading.{Res, bad, because, ok}
 use Rattle.layout.specs.Reading as Reading
 use Rattle.layout.specs.Primitives.{Width, cell_of, holds, integer_bytes, signed, zigzag, zigzag_bytes}
 use Rattle.layout.specs.Tables.{Span}
-use Rattle.layout.specs.Answers.{Answer, accepted, refused, write_alone}
-use Rattle.primitives.specs.Answers.{of_integer}
-use Rattle.primitives.specs.declared.Integer.{Integer}
+use Rattle.layout.specs.Answers.{Answer, refused, write_alone}
+use denote.Ref.{Bor}
+use Rattle.std.specs.Prelude.{not, Option as Maybe}
+use Rattle.std.specs.Bool.{then_some}
+use Rattle.primitives_put.specs.Answers.{null_or}
 use Rattle.primitives.specs.Parts.{there}
 use Rattle.layout.specs.Primitives as Kafka
 use Rattle.layout.specs.Write.{unless}
-use Rattle.gateway_primitives.specs.Kinds.{Primitive, count_cells, field_cells, integer_cells, kinds, nullable_cells, number_cells, read_if, read_kind, shown, write_if, write_kind, write_of}
+use Rattle.gateway_primitives.specs.Kinds.{Primitive, given, given_count, field_cells, kinds, nullable_cells, read_if, read_kind, shown, write_if, write_kind, write_of}
 use Rattle.primitives.proofs.Signed.{back}
 use Rattle.primitives.proofs.Versions.{between, up_to}
 
@@ -49,13 +49,14 @@ pub no_kind : (kind : ℕ) → 18 ≤ kind → (s : List ℕ) (c : Reading.Refus
 unfolding read_kind
 no_kind kind h s c d = ap refused d ∙ ap (λ (o : Option Primitive). read_if o s) (sym (beyond kinds kind h))
 
--- a number that passed an argument, as a cell
-pub integer_took : (x : Integer) (v : ℤ) (n m : ℕ) → SFits w64 v → x ≡ Integer.Took v n → m ≡ cell_of (to_z w64 (of_z w64 v)) → accepted (number_cells m) n ≡ shown integer_cells (of_integer x)
-integer_took x v n m f e d = ap (λ (k : ℕ). accepted (number_cells k) n) (d ∙ ap cell_of (to_z-of_z {w = w64} f)) ∙ ap (λ (y : Integer). shown integer_cells (of_integer y)) (sym e)
+-- what is given unless it is null
+pub given_or : (null : Bool) (x : Bor (List ℕ)) (v : Maybe (Bor (List ℕ))) → v ≡ then_some (not null) x → null_or v ≡ given true null x.now
+given_or true x v e = ap null_or e
+given_or false x v e = ap null_or e
 
--- a count that is not null
-pub counted_one : (n : ℕ) → count_cells (n + 1) ≡ number_cells n
-counted_one n = ap count_cells (add-one n)
+pub given_counted : (null : Bool) (n : ℕ) (v : Maybe ℕ) → v ≡ then_some (not null) n → v ≡ given_count null n
+given_counted true n v e = e
+given_counted false n v e = e
 
 module _ (kind k : ℕ) (e : kind ≡ k) (n : Bool) (c : ℕ) (x out : List ℕ) (r : Answer × List ℕ) where
   -- what the writer of kind k promises

@@ -1,6 +1,6 @@
 -- The primitives that are read and written by themselves, and the number of each. What is right for one is the definition that its own call promises:
 -- `alone` for reading, `write_alone` for writing. Assumes nothing.
-use Rattle.std.specs.Prelude.{Bool, true, false, cond, List, [], ◌∷◌, ℕ, zero, suc, ◌^◌, ltb, ℤ}
+use Rattle.std.specs.Prelude.{Bool, true, false, cond, List, [], ◌∷◌, ℕ, zero, suc, ◌^◌, ltb, ℤ, Ok, Err, Some, None, Option as Nullable}
 use Rattle.std.proofs.Math.Option.{Option, none, some}
 use Rattle.std.proofs.Math.ListN.{get_elem?}
 use Rattle.layout.specs.Reading.{Res, ok, bad, because}
@@ -12,9 +12,9 @@ use Rattle.layout.specs.Tables.{Span}
 use Rattle.layout.specs.Write.{basic_fault, unless, write_basic}
 use Rattle.layout.specs.Answers.{Answer, accepted, refused, alone, write_alone}
 use Rattle.primitives.specs.Parts.{counted}
-use Rattle.primitives_put.specs.Answers.{count_bytes, count_fault, null_or}
-use Rattle.primitives.specs.Answers.{is_set, of_refusal}
-use Rattle.gateway_primitives.specs.declared.kinds.Reply.{Reply}
+use Rattle.primitives_put.specs.Answers.{count_bytes, count_fault}
+use Rattle.primitives.specs.Answers.{Read, is_set, of_refusal}
+use Rattle.gateway_primitives.specs.declared.kinds.Shown.{Shown}
 
 -- a number of a width, the others by their names in Kafka's guide, a length or count, data, text
 pub data Primitive : Type 0 where
@@ -52,9 +52,12 @@ kinds =
 
 -- ---- read: form (2 a value, 1 null), value, length
 
-abbrev pub of_reply : Reply → Answer
-of_reply (Reply.Took f v l n) = accepted (f ∷ v ∷ l ∷ []) n
-of_reply (Reply.Refused e) = refused (of_refusal e)
+abbrev pub cells_of : Shown → List ℕ
+cells_of x = x.form ∷ x.value ∷ x.length ∷ []
+
+abbrev pub of_reply : Read Shown → Answer
+of_reply (Ok t) = accepted (cells_of t.value) t.next
+of_reply (Err e) = refused (of_refusal e)
 
 abbrev pub shown : {A : Type 0} → (A → List ℕ) → Res A → Answer
 shown f (ok x n) = accepted (f x) n
@@ -111,8 +114,11 @@ read_kind k s = read_if (get_elem? kinds k) s
 
 -- null is looked at where it is a value of its own
 abbrev pub given : (b : Bool) → Bool → List ℕ → Maybe b (List ℕ)
-given true null x = null_or null x
+given true null x = cond null none (some x)
 given false null x = x
+
+abbrev pub given_count : Bool → ℕ → Nullable ℕ
+given_count null c = cond null None (Some c)
 
 unfoldable pub write_of : Primitive → Bool → ℕ → List ℕ → List ℕ → Answer × List ℕ
 write_of (integer w) null c x out = write_alone (unless (holds w (cell_of (signed w64 c))) 11) (integer_bytes w (signed w64 c)) out
@@ -120,7 +126,7 @@ write_of boolean null c x out = write_alone 0 (flag_bytes (is_set c)) out
 write_of unsigned null c x out = write_alone 0 (unsigned_bytes c) out
 write_of varint null c x out = write_alone (unless (ltb (zigzag (signed w64 c)) (2 ^ 32)) 11) (zigzag_bytes (signed w64 c)) out
 write_of varlong null c x out = write_alone 0 (zigzag_bytes (signed w64 c)) out
-write_of (count z) null c x out = write_alone (count_fault z null c) (count_bytes z null c) out
+write_of (count z) null c x out = write_alone (count_fault z (given_count null c)) (count_bytes z (given_count null c)) out
 write_of (blob z) null c x out = write_alone (basic_fault (Rows.blob z) (given (keeps z) null x)) (write_basic (Rows.blob z) (given (keeps z) null x)) out
 write_of (text z) null c x out = write_alone (basic_fault (Rows.text z) (given (keeps z) null x)) (write_basic (Rows.text z) (given (keeps z) null x)) out
 

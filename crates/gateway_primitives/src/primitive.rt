@@ -8,28 +8,23 @@ ghost use Rattle.gateway_primitives.specs.Replies.{primitive_numbers};
 use crate::kinds::Reply;
 use crate::{PrimitiveNumbers, read_kind, write_kind};
 use gateway::{Numbers, written};
-use primitives::is_set;
+use primitives::{Taken, is_set};
 
 // What a reader answers, as numbers.
 fn reply(r: Reply) -> PrimitiveNumbers
     ensures { result ≡ primitive_numbers (of_reply r) }
 {
     match r {
-        Reply::Took {
-            form,
-            value,
-            length,
-            used,
-        } => PrimitiveNumbers {
+        Ok(Taken { value, next }) => PrimitiveNumbers {
             number: 0,
             place: 0,
             need: 0,
-            used: used as u64,
-            form,
-            value,
-            length,
+            used: next as u64,
+            form: value.form,
+            value: value.value,
+            length: value.length,
         },
-        Reply::Refused(e) => PrimitiveNumbers {
+        Err(e) => PrimitiveNumbers {
             number: e.number as u64,
             place: e.place as u64,
             need: e.need as u64,

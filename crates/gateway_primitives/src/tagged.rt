@@ -7,21 +7,21 @@ ghost use Rattle.gateway_primitives.specs.Replies.{tags_numbers};
 
 use crate::TagsNumbers;
 use gateway::{Numbers, written};
-use tagged_fields::reading::Tagged;
+use primitives::{Read, Taken};
 
 // What a reader answers, as numbers.
-fn reply(r: Tagged) -> TagsNumbers
+fn reply(r: Read<u64>) -> TagsNumbers
     ensures { result ≡ tags_numbers (of_tagged r) }
 {
     match r {
-        Tagged::Took { count, used } => TagsNumbers {
+        Ok(Taken { value, next }) => TagsNumbers {
             number: 0,
             place: 0,
             need: 0,
-            used: used as u64,
-            tags: count,
+            used: next as u64,
+            tags: value,
         },
-        Tagged::Refused(e) => TagsNumbers {
+        Err(e) => TagsNumbers {
             number: e.number as u64,
             place: e.place as u64,
             need: e.need as u64,

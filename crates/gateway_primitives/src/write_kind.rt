@@ -13,74 +13,61 @@ fn integers(out: &mut [u8], kind: u64, value: u64) -> Written
     requires { kind < 4 }
     ensures { replied result out.new ≡ write_kind kind false value [] out.old }
 {
-    if kind == 0 {
-        return write::int8(out, signed(value));
+    match kind {
+        0 => write::int8(out, signed(value)),
+        1 => write::int16(out, signed(value)),
+        2 => write::int32(out, signed(value)),
+        _ => write::int64(out, signed(value)),
     }
-    if kind == 1 {
-        return write::int16(out, signed(value));
-    }
-    if kind == 2 {
-        return write::int32(out, signed(value));
-    }
-    write::int64(out, signed(value))
 }
 
 fn others(out: &mut [u8], kind: u64, value: u64) -> Written
     requires { (4 ≤ kind) × (kind < 8) }
     ensures { replied result out.new ≡ write_kind kind false value [] out.old }
 {
-    if kind == 4 {
-        return write::boolean(out, is_set(value));
+    match kind {
+        4 => write::boolean(out, is_set(value)),
+        5 => write::unsigned_varint(out, value),
+        6 => write::varint(out, signed(value)),
+        _ => write::varlong(out, signed(value)),
     }
-    if kind == 5 {
-        return write::unsigned_varint(out, value);
-    }
-    if kind == 6 {
-        return write::varint(out, signed(value));
-    }
-    write::varlong(out, signed(value))
 }
 
 fn counts(out: &mut [u8], kind: u64, null: bool, value: u64) -> Written
     requires { (8 ≤ kind) × (kind < 10) }
     ensures { replied result out.new ≡ write_kind kind null value [] out.old }
 {
-    if kind == 8 {
-        return write::array_count(out, null, value);
+    let count = (!null).then_some(value);
+    match kind {
+        8 => write::array_count(out, count),
+        _ => write::compact_array_count(out, count),
     }
-    write::compact_array_count(out, null, value)
 }
 
 fn blobs(out: &mut [u8], kind: u64, null: bool, content: &[u8]) -> Written
     requires { (10 ≤ kind) × (kind < 14) }
     ensures { replied result out.new ≡ write_kind kind null 0 content.now out.old }
 {
-    if kind == 10 {
-        return write::bytes(out, content);
+    let value = (!null).then_some(content);
+    match kind {
+        10 => write::bytes(out, content),
+        11 => write::nullable_bytes(out, value),
+        12 => write::compact_bytes(out, content),
+        _ => write::records(out, content),
     }
-    if kind == 11 {
-        return write::nullable_bytes(out, null, content);
-    }
-    if kind == 12 {
-        return write::compact_bytes(out, content);
-    }
-    write::records(out, content)
 }
 
 fn texts(out: &mut [u8], kind: u64, null: bool, content: &[u8]) -> Written
     requires { (14 ≤ kind) × (kind < 18) }
     ensures { replied result out.new ≡ write_kind kind null 0 content.now out.old }
 {
-    if kind == 14 {
-        return write::string(out, content);
+    let value = (!null).then_some(content);
+    match kind {
+        14 => write::string(out, content),
+        15 => write::nullable_string(out, value),
+        16 => write::compact_string(out, content),
+        _ => write::compact_nullable_string(out, value),
     }
-    if kind == 15 {
-        return write::nullable_string(out, null, content);
-    }
-    if kind == 16 {
-        return write::compact_string(out, content);
-    }
-    write::compact_nullable_string(out, null, content)
 }
 
 // A kind that there is not is refused as a version that there is not.
@@ -108,5 +95,5 @@ pub(crate) fn primitive(
     if kind < 18 {
         return texts(out, kind, null, content);
     }
-    Written::Refused(at(NO_VERSION, 0))
+    Err(at(NO_VERSION, 0))
 }

@@ -15,12 +15,6 @@ use Rattle.layout_rows.specs.declared.Row.{Row}
 use Rattle.layout_rows.specs.Rows.{row_at, row_count, table}
 use Rattle.layout_rows.specs.Shapes.{basic_of, between, listed, maybe_of, shape_of, size_of}
 
--- inside a list the default does not matter
-pub any_default : {A : Type 0} (l : List A) (i : ℕ) (d e : A) → i < length l → get_or l i d ≡ get_or l i e
-any_default [] i d e h = absurd (omega arith)
-any_default (x ∷ l) zero d e h = refl
-any_default (x ∷ l) (suc i) d e h = any_default l i d e (omega arith)
-
 -- ---- a row that is no end is inside the table
 
 abbrev goes_on : Row → ℕ

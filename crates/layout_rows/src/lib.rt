@@ -28,7 +28,7 @@ pub enum Many {
     Tags,
 }
 
-// A row of a list of fields.
+// A row of a list of fields. A list is known by the row where it begins, and not by a slice: `row_at` promises rows by their number, and the theorems of proofs/Guide.antt speak of that.
 #[derive(Clone, Copy)]
 pub enum Row {
     // kind, first and last version
@@ -204,11 +204,9 @@ const ROWS: [Row; ROW_COUNT] = [
 ];
 
 // Row i; `End` after the last row.
+#[tactic(auto, unfolding(crate::specs::Rows::table))]
 pub fn row_at(i: usize) -> Row
     ensures { result ≡ row_at i }
 {
-    if ROW_COUNT <= i {
-        return Row::End;
-    }
-    ROWS[i]
+    ROWS.get(i).copied().unwrap_or(Row::End)
 }

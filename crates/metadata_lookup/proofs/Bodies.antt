@@ -4,7 +4,7 @@ use mathlib.Core.List.{List, [], ◌++◌, ◌∷◌, append-nil, map}
 use mathlib.Core.Logic.{◌≢◌}
 use mathlib.Core.Option.{some}
 use mathlib.Core.Path.{◌∙◌, ◌≡◌, ap, refl, subst, sym}
-use Prim.Native.Nat.{◌-◌, ◌<◌, ◌≤◌, suc, zero, ℕ}
+use Prim.Native.Nat.{◌+◌, ◌-◌, ◌<◌, ◌≤◌, suc, zero, ℕ}
 use native.Mathlib.Omega.{arith}
 use native.Mathlib.Nat.{zero-add}
 use lib.ListN.{get_or, length}
@@ -106,23 +106,31 @@ module _ (r : Reader (List ℕ)) (s : List ℕ) (node : ℕ) where
     pub record Left (n p : ℕ) : Type 0 where
       pub law : (h : Host) → Seeks (many n r) s p node h → Seeks (many count r) s at node h
 
-    pub left_all : Left count at
-    left_all = record { law = λ h w. w }
+    -- after i turns
+    abbrev pub After : ℕ → ℕ → Type 0
+    After i p = Left (count - i) p
 
-    module _ (n p : ℕ) (w : Left n p) where
-      pub left_none : n ≤ 0 → Seeks (many count r) s at node unknown
-      left_none l = w.law unknown (none_left n p l)
+    pub left_all : After 0 at
+    left_all =
+        let m : count - 0 ≡ count = omega arith in
+        record { law = λ h w. subst (λ (n : ℕ). Seeks (many n r) s at node h) m w }
 
-      module _ (l : 0 < n) where
+    module _ (i p : ℕ) (w : After i p) where
+      pub left_none : count ≤ i → Seeks (many count r) s at node unknown
+      left_none l = w.law unknown (none_left (count - i) p (omega arith))
+
+      module _ (l : i < count) where
         pub left_no : (c : Refusal) → bad c ≡ on r s p → (h : Host) → Seeks (many count r) s at node h
-        left_no c e h = w.law h (row_no n p l c e h)
+        left_no c e h = w.law h (row_no (count - i) p (omega arith) c e h)
 
         module _ (cs : List ℕ) (u : ℕ) (e : ok cs u ≡ on r s p) where
           pub left_here : get_or cs 0 0 ≡ node → Seeks (many count r) s at node (found (get_or cs 1 0) (get_or cs 2 0))
-          left_here g = w.law (found (get_or cs 1 0) (get_or cs 2 0)) (row_here n p l cs u e g)
+          left_here g = w.law (found (get_or cs 1 0) (get_or cs 2 0)) (row_here (count - i) p (omega arith) cs u e g)
 
-          pub left_past : get_or cs 0 0 ≢ node → Left (n - 1) u
-          left_past g = record { law = λ h v. w.law h (row_past n p l cs u e g h v) }
+          pub left_past : get_or cs 0 0 ≢ node → After (i + 1) u
+          left_past g =
+              let m : count - (i + 1) ≡ count - i - 1 = omega arith in
+              record { law = λ h v. w.law h (row_past (count - i) p (omega arith) cs u e g h (subst (λ (n : ℕ). Seeks (many n r) s u node h) m v)) }
 
 -- ---- behind the front of a body
 

@@ -14,18 +14,18 @@ use Rattle.layout.specs.Messages.Metadata.{response}
 use Rattle.layout.proofs.Calls.{seen_local}
 use Rattle.layout.proofs.Looked.{lookup_rows}
 use Rattle.primitives.proofs.Unique.{refusal_of, unique}
-use Rattle.metadata_lookup.specs.Hosts.{of_host}
-use Rattle.metadata_lookup.specs.declared.Host.{Host}
+use Rattle.metadata_lookup.specs.Hosts.{Host, of_host}
+use Rattle.std.specs.Prelude.{Ok, Err, Some, None}
 
 abbrev host_back : Lookup.Host → Host
-host_back (Lookup.refused e) = Host.Refused (refusal_of e)
-host_back Lookup.unknown = Host.Unknown
-host_back (Lookup.found a k) = Host.Found a k
+host_back (Lookup.refused e) = Err (refusal_of e)
+host_back Lookup.unknown = Ok None
+host_back (Lookup.found a k) = Ok (Some (record { start = a; len = k }))
 
 host_back_lem : (x : Host) → host_back (of_host x) ≡ x
-host_back_lem (Host.Found a k) = refl
-host_back_lem Host.Unknown = refl
-host_back_lem (Host.Refused e) = refl
+host_back_lem (Ok (Some a)) = refl
+host_back_lem (Ok None) = refl
+host_back_lem (Err e) = refl
 
 pub host_unique : (o : Lookup.Host) (x y : Host) → of_host x ≡ o → of_host y ≡ o → x ≡ y
 host_unique = unique of_host host_back host_back_lem

@@ -1,19 +1,24 @@
 -- What the search for a host says in the definition's words.
-use Rattle.std.specs.Prelude.{Bool, List, [], ◌≡◌, ℕ}
+use Rattle.std.specs.Prelude.{Bool, List, [], ◌≡◌, ℕ, Result, Ok, Err, Option, Some, None}
 use Rattle.layout.specs.Reading.{Reader, many, ok, then}
 use Rattle.layout.specs.Tables.{first_row}
 use Rattle.layout.specs.Lookup as Lookup
 use Rattle.layout.specs.Lookup.{host_of}
 use Rattle.primitives.specs.Answers.{of_refusal}
+use Rattle.primitives.specs.declared.Refusal.{Refusal}
+use Rattle.primitives.specs.declared.Span.{Span}
 use Rattle.body_reading.specs.Walk.{on, row_from}
 use Rattle.metadata_response.specs.Brokers.{broker_shape}
 use Rattle.body_reading.specs.Fronts.{front_of}
-use Rattle.metadata_lookup.specs.declared.Host.{Host}
+
+-- what the search answers
+abbrev pub Host : Type 0
+Host = Result (Option Span) Refusal
 
 abbrev pub of_host : Host → Lookup.Host
-of_host (Host.Found a k) = Lookup.found a k
-of_host Host.Unknown = Lookup.unknown
-of_host (Host.Refused e) = Lookup.refused (of_refusal e)
+of_host (Ok (Some x)) = Lookup.found x.start x.len
+of_host (Ok None) = Lookup.unknown
+of_host (Err e) = Lookup.refused (of_refusal e)
 
 -- h is the node's host among the rows that r reads. Where r refuses nothing is said: the message was judged before
 pub record Seeks (r : Reader (List (List ℕ))) (s : List ℕ) (p node : ℕ) (h : Lookup.Host) : Type 0 where

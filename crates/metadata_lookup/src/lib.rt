@@ -9,74 +9,43 @@ ghost use Rattle.body_reading.specs.Walk.{row_from};
 ghost use Rattle.metadata_response.specs.Brokers.{broker_shape};
 ghost use Rattle.metadata_lookup.specs.Hosts.{Seeks, brokers_of, of_host};
 
-use body_reading::versioned::{Front, front_of};
-use metadata_response::body::Walked;
-use metadata_response::brokers::{BrokerRow, broker_row};
+use body_reading::versioned::front_of;
+use metadata_response::brokers::broker_row;
 use metadata_response::reading::measure;
-use primitives::{Refusal, version_of};
+use primitives::{Refusal, Span, version_of};
 
-// The part of the message that is the host, no broker with that node, or why the message is refused.
-#[derive(Drop)]
-pub enum Host {
-    Found { start: usize, len: usize },
-    Unknown,
-    Refused(Refusal),
-}
+// The part of the message that is the host, or none where no broker has that node; or why the message is refused.
+pub type Host = Result<Option<Span>, Refusal>;
 
 // The first of `count` brokers with that node. Brokers that are refused are not met here: their message was refused before.
 fn seek(s: &[u8], p: usize, racked: bool, count: u64, node: u64) -> Host
     ensures { Seeks (many count (row_from [] (broker_shape racked))) s.now p node (of_host result) }
 {
-    let mut left = count;
     let mut place = p;
-    while 0 < left {
-        match broker_row(s, place, racked) {
-            BrokerRow::Took { row, next } => {
-                if row.node == node {
-                    return Host::Found {
-                        start: row.host,
-                        len: row.len,
-                    };
-                }
-                place = next;
-                left = left - 1;
-            }
-            BrokerRow::Refused(e) => {
-                return Host::Refused(e);
-            }
+    for _ in 0..count {
+        let broker = broker_row(s, place, racked)?;
+        let row = broker.value;
+        if row.node == node {
+            return Ok(Some(row.host));
         }
+        place = broker.next;
     }
-    Host::Unknown
+    Ok(None)
 }
 
 // In a body that is accepted; `throttled`: a throttle time stands in front of the brokers.
 fn host_in(s: &[u8], racked: bool, throttled: bool, node: u64) -> Host
     ensures { Seeks (brokers_of racked throttled) s.now 0 node (of_host result) }
 {
-    match front_of(s, throttled) {
-        Front::Took {
-            throttle,
-            count,
-            next,
-        } => seek(s, next, racked, count, node),
-        Front::Refused(e) => Host::Refused(e),
-    }
+    let front = front_of(s, throttled)?;
+    seek(s, front.next, racked, front.count, node)
 }
 
 // The first broker with that node decides, if the whole message is accepted by a prefix read but for room.
 pub fn host_of(msg: &[u8], version: i64, node: u64) -> Host
     ensures { of_host result ≡ lookup node version msg.now }
 {
-    match measure(msg, version) {
-        Walked::Took {
-            body,
-            next,
-            brokers,
-            marks,
-        } => {
-            let v = version_of(version);
-            host_in(msg, 1 <= v, 3 <= v, node)
-        }
-        Walked::Refused(e) => Host::Refused(e),
-    }
+    measure(msg, version)?;
+    let v = version_of(version);
+    host_in(msg, 1 <= v, 3 <= v, node)
 }

@@ -23,7 +23,7 @@ use Rattle.body_writing.proofs.Counts.{few_told}
 use Rattle.body_writing.proofs.NamedFaults.{called_name, cause_good}
 use Rattle.metadata_request.specs.Answers.{of_creation}
 use Rattle.metadata_request.specs.Shapes.{creation_field, creation_shape, name_shape, request_shape}
-use Rattle.metadata_request.specs.declared.Creation.{Creation}
+use Rattle.std.specs.Prelude.{Option}
 use Rattle.metadata_request.proofs.Request.{good_rows, is_shape, refusal}
 
 module _ (lent : List ℕ) (e : ℕ) (some : e ≢ 0) where
@@ -50,7 +50,7 @@ module _ (lent : List ℕ) (e : ℕ) (some : e ≢ 0) where
     names_blame k = sym (request_blame false (length topics / 2) (2 ∷ 1 ∷ []) topics k (few_told (length topics / 2) (omega arith)))
 
 -- the name that the call gives, whatever its row says of auto-creation
-pub request_named : (lent : List ℕ) (c : ℕ) (topics : List ℕ) → length topics < 2 ^ 64 → (v : ℕ) → v ≤ 4 → (q : Creation) (z : ℤ) → v ≡ version_of z → (e : Refusal) → Cause e.number (refusal lent c topics) → (r : Refusal) →
+pub request_named : (lent : List ℕ) (c : ℕ) (topics : List ℕ) → length topics < 2 ^ 64 → (v : ℕ) → v ≤ 4 → (q : Option Bool) (z : ℤ) → v ≡ version_of z → (e : Refusal) → Cause e.number (refusal lent c topics) → (r : Refusal) →
     r ≡ name_fault 3 (request_shape false) none_yet (meant lent ((length topics / 2 ∷ 2 ∷ 1 ∷ []) ∷ topics ∷ []) (request_shape false)) e → r ≡ named_fault request z lent ((c ∷ of_creation q) ∷ topics ∷ []) e
 request_named lent c topics s v h q z i e t r w =
     called_name request z v i h (omega arith) lent ((c ∷ of_creation q) ∷ topics ∷ []) e (request_shape false) (meant lent ((length topics / 2 ∷ 2 ∷ 1 ∷ []) ∷ topics ∷ []) (request_shape false)) r w

@@ -36,8 +36,9 @@ use Rattle.body_writing.proofs.Counts.{rows_other, rows_same}
 use Rattle.body_writing.proofs.Judged.{always}
 use Rattle.body_writing.proofs.Lent.{good_one, string_told}
 use Rattle.body_writing.proofs.Called.{called}
-use Rattle.metadata_request.specs.Answers.{of_creation}
-use Rattle.metadata_request.specs.declared.Creation.{Creation}
+use Rattle.metadata_request.specs.Answers.{flag_row, of_creation}
+use Rattle.std.specs.Prelude.{Option, Some, None, is_some, unwrap_or}
+use Rattle.std.specs.Bool.{then_some}
 use Rattle.metadata_request.specs.Shapes.{creation_field, creation_shape, name_shape, request_shape, topics_shape}
 
 pub is_shape : (v : ℕ) → v ≤ 4 → shape request v ≡ request_shape (leb 4 v)
@@ -125,12 +126,12 @@ flag_is : (b : Bool) → b ≡ ltb 0 (cond b 1 0)
 flag_is true = refl
 flag_is false = refl
 
-module _ (f flag : Bool) where
-  pub creation_there : f ≡ true → {d d' : List ℕ} {n : ℕ} → Put (flag_bytes flag) d n d' → Capped (row_bytes [] (creation_shape f) (2 ∷ cond flag 1 0 ∷ [])) d n d'
+module _ (o : Option Bool) where
+  pub creation_there : {flag : Bool} → o ≡ Some flag → {d d' : List ℕ} {n : ℕ} → Put (flag_bytes flag) d n d' → Capped (row_bytes [] (creation_shape (is_some o)) (flag_row o)) d n d'
   unfolding row_bytes bytes_at write write_basic value_of pop width basic_of chosen
-  creation_there h p = rw h (capped_as (ap flag_bytes (flag_is flag) ∙ sym (append-nil _)) (capped (put_step p)))
+  creation_there {flag} h p = rw h (capped_as (ap flag_bytes (flag_is flag) ∙ sym (append-nil _)) (capped (put_step p)))
 
-  pub creation_lacking : f ≡ false → (d : List ℕ) → Capped (row_bytes [] (creation_shape f) (2 ∷ cond flag 1 0 ∷ [])) d 0 d
+  pub creation_lacking : o ≡ None → (d : List ℕ) → Capped (row_bytes [] (creation_shape (is_some o)) (flag_row o)) d 0 d
   unfolding row_bytes bytes_at write value_of pop
   creation_lacking h d = rw h (capped (step_nothing d))
 
@@ -148,43 +149,33 @@ module _ {d d₁ e : List ℕ} {n m : ℕ} (at : ℕ) (h : at ≡ min n (length 
   pub array_put : (lent topics : List ℕ) → Put (length_bytes (size_of Form.Int32) (length topics / 2)) d n d₁ → Capped (rows_bytes lent name_shape 2 topics) (mid_of at (length d₁ - at) d₁) m e → Capped (counted_bytes lent name_shape (fixed w32 kept) 2 topics) d r (put_mid at (length d₁ - at) d₁ e)
   array_put lent topics p q = counted_put Form.Int32 kept lent name_shape 2 topics at h r k p q
 
-  pub request_put : (f : Bool) (lent : List ℕ) (c : ℕ) (flag : Bool) (topics : List ℕ) → Capped (bytes_at lent (topics_shape end) 0 ((c ∷ []) ∷ topics ∷ [])) d n d₁ → Capped (row_bytes [] (creation_shape f) (2 ∷ cond flag 1 0 ∷ [])) (mid_of at (length d₁ - at) d₁) m e →
-      Capped (bytes_at lent (request_shape f) 0 ((c ∷ 2 ∷ cond flag 1 0 ∷ []) ∷ topics ∷ [])) d r (put_mid at (length d₁ - at) d₁ e)
-  request_put f lent c flag topics p q = capped_as (sym (request_bytes lent c topics f (2 ∷ cond flag 1 0 ∷ []))) (capped_behind p at h q r k)
-
--- ---- auto-creation, unset or set
-
-abbrev flag_of : Creation → Bool
-flag_of q = basic_of [] creation_field (of_creation q)
-
-module _ (q : Creation) where
-  pub flag_unset : q ≡ Creation.Unset → true ≡ flag_of q
-  unfolding basic_of chosen
-  flag_unset h = sym (ap flag_of h)
-
-  pub flag_set : {b : Bool} → q ≡ Creation.Set b → b ≡ flag_of q
-  unfolding basic_of chosen
-  flag_set {b} h = flag_is b ∙ sym (ap flag_of h)
+  pub request_put : (f : Bool) (lent : List ℕ) (c : ℕ) (cs topics : List ℕ) → Capped (bytes_at lent (topics_shape end) 0 ((c ∷ []) ∷ topics ∷ [])) d n d₁ → Capped (row_bytes [] (creation_shape f) cs) (mid_of at (length d₁ - at) d₁) m e →
+      Capped (bytes_at lent (request_shape f) 0 ((c ∷ cs) ∷ topics ∷ [])) d r (put_mid at (length d₁ - at) d₁ e)
+  request_put f lent c cs topics p q = capped_as (sym (request_bytes lent c topics f cs)) (capped_behind p at h q r k)
 
 -- ---- the call's promise from that of a known version
 
--- a row means what is written of it
-row_bytes_lem : (f : Bool) (q : Creation) → row_bytes [] (creation_shape f) (of_creation q) ≡ row_bytes [] (creation_shape f) (2 ∷ cond (flag_of q) 1 0 ∷ [])
+-- a row means what is written of it: where it is unset, the broker may create topics; and a version that lacks it writes nothing of it
+flag_written : (q : Option Bool) → row_bytes [] (creation_shape true) (of_creation q) ≡ row_bytes [] (creation_shape true) (flag_row (Some (unwrap_or q true)))
 unfolding row_bytes bytes_at write value_of pop width basic_of chosen
-row_bytes_lem true Creation.Unset = refl
-row_bytes_lem true (Creation.Set b) = ap (λ (x : Bool). row_bytes [] (creation_shape true) (2 ∷ cond x 1 0 ∷ [])) (flag_is b)
-row_bytes_lem false q = refl
+flag_written None = refl
+flag_written (Some b) = refl
+
+row_written : (f : Bool) (q o : Option Bool) → o ≡ then_some f (unwrap_or q true) → row_bytes [] (creation_shape f) (of_creation q) ≡ row_bytes [] (creation_shape (is_some o)) (flag_row o)
+unfolding row_bytes bytes_at write value_of pop
+row_written true q o e = flag_written q ∙ ap (λ (x : Option Bool). row_bytes [] (creation_shape (is_some x)) (flag_row x)) (sym e)
+row_written false q o e = ap (λ (x : Option Bool). row_bytes [] (creation_shape (is_some x)) (flag_row x)) (sym e)
 
 row_refusal : (lent : List ℕ) (c : ℕ) (topics : List ℕ) (f : Bool) (k m : ℕ) → refusal_of lent 1 (request_shape false) (request_shape f) ((c ∷ k ∷ m ∷ []) ∷ topics ∷ []) ≡ refusal lent c topics
 unfolding refusal_of
 row_refusal lent c topics f k m = λ t. cond ((is_good (length lent) c topics k m ∙ sym (is_good (length lent) c topics 2 1)) t) ((fault_is lent c topics f k m ∙ sym (fault_is lent c topics false 2 1)) t) 13
 
-pub request_written : (lent : List ℕ) (c : ℕ) (topics out : List ℕ) (v : ℕ) → v ≤ 4 → (q : Creation) (z : ℤ) → v ≡ version_of z → (flag : Bool) → flag ≡ flag_of q → (r : Answer × List ℕ) →
-    r ≡ write_alone (refusal lent c topics) (bytes_at lent (request_shape (leb 4 v)) 0 ((c ∷ 2 ∷ cond flag 1 0 ∷ []) ∷ topics ∷ [])) out → r ≡ write_answer request z lent ((c ∷ of_creation q) ∷ topics ∷ []) out
-request_written lent c topics out v h q z e flag j r w =
+pub request_written : (lent : List ℕ) (c : ℕ) (topics out : List ℕ) (v : ℕ) → v ≤ 4 → (q : Option Bool) (z : ℤ) → v ≡ version_of z → (o : Option Bool) → o ≡ then_some (leb 4 v) (unwrap_or q true) → (r : Answer × List ℕ) →
+    r ≡ write_alone (refusal lent c topics) (bytes_at lent (request_shape (is_some o)) 0 ((c ∷ flag_row o) ∷ topics ∷ [])) out → r ≡ write_answer request z lent ((c ∷ of_creation q) ∷ topics ∷ []) out
+request_written lent c topics out v h q z e o j r w =
     called request z v e h (omega arith) lent ((c ∷ of_creation q) ∷ topics ∷ []) out r _ _ w (rw (is_shape v h, is_shape 0 (omega arith)) (refusals q))
-    (λ g. rw (is_shape v h) (request_bytes lent c topics (leb 4 v) (of_creation q) ∙ ap (λ (x : List ℕ). bytes_at lent (topics_shape end) 0 ((c ∷ []) ∷ topics ∷ []) ++ x) (row_bytes_lem (leb 4 v) q ∙ ap (λ (b : Bool). row_bytes [] (creation_shape (leb 4 v)) (2 ∷ cond b 1 0 ∷ [])) (sym j)) ∙ sym (request_bytes lent c topics (leb 4 v) (2 ∷ cond flag 1 0 ∷ []))))
+    (λ g. rw (is_shape v h) (request_bytes lent c topics (leb 4 v) (of_creation q) ∙ ap (λ (x : List ℕ). bytes_at lent (topics_shape end) 0 ((c ∷ []) ∷ topics ∷ []) ++ x) (row_written (leb 4 v) q o j) ∙ sym (request_bytes lent c topics (is_some o) (flag_row o))))
   where
-    refusals : (q : Creation) → refusal_of lent 1 (request_shape false) (request_shape (leb 4 v)) ((c ∷ of_creation q) ∷ topics ∷ []) ≡ refusal lent c topics
-    refusals Creation.Unset = row_refusal lent c topics (leb 4 v) 0 0
-    refusals (Creation.Set flag) = row_refusal lent c topics (leb 4 v) 2 (cond flag 1 0)
+    refusals : (q : Option Bool) → refusal_of lent 1 (request_shape false) (request_shape (leb 4 v)) ((c ∷ of_creation q) ∷ topics ∷ []) ≡ refusal lent c topics
+    refusals None = row_refusal lent c topics (leb 4 v) 0 0
+    refusals (Some flag) = row_refusal lent c topics (leb 4 v) 2 (cond flag 1 0)

@@ -5,8 +5,7 @@ use lib.IntN.{ℤ}
 use Prim.Native.Nat.{ℕ}
 use Rattle.layout.specs.Answers.{write_answer}
 use Rattle.layout.specs.Messages.Metadata as Meta
-use Rattle.primitives_put.specs.Answers.{replied}
-use Rattle.primitives_put.specs.declared.Written.{Written}
+use Rattle.primitives_put.specs.Answers.{Written, replied}
 use Rattle.primitives_put.proofs.Unique.{written_unique}
 use Rattle.metadata_request.specs.Answers.{of_request}
 use Rattle.metadata_request.specs.declared.RequestBody.{RequestBody}

@@ -19,6 +19,7 @@ fn is_good(size: usize, count: u64, topics: &[u64]) -> bool
 }
 
 // 13, 11, 7, or 0 for none of them.
+#[tactic(auto, using(crate::proofs::Request::fault_bad, crate::proofs::Request::fault_names))]
 pub(crate) fn refusal(lent: &[u8], count: u64, topics: &[u64]) -> u8
     ensures { result ≡ refusal_of lent.now 1 (request_shape false) (request_shape false) ((count ∷ 2 ∷ 1 ∷ []) ∷ topics.now ∷ []) }
 {
@@ -28,6 +29,8 @@ pub(crate) fn refusal(lent: &[u8], count: u64, topics: &[u64]) -> u8
     names_fault(lent, topics)
 }
 
+// The row by its number, as the writer and the walk to a fault take it too: a row off the front, as `chunks_exact` gives it, is no plainer, since they would need its number beside it.
+#[tactic(auto, using(crate::proofs::Request::name_told))]
 pub(crate) fn name_fault(lent: &[u8], topics: &[u64], i: usize) -> u8
     requires { i < length topics.now / 2 }
     ensures { result ≡ row_fault lent.now name_shape (get_or (rows_of 2 topics.now) i []) }
@@ -39,14 +42,11 @@ pub(crate) fn name_fault(lent: &[u8], topics: &[u64], i: usize) -> u8
 pub(crate) fn names_fault(lent: &[u8], topics: &[u64]) -> u8
     ensures { result ≡ rows_fault lent.now name_shape 2 topics.now }
 {
-    let n = topics.len() / 2;
-    let mut i: usize = 0;
-    while i < n {
+    for i in 0..topics.len() / 2 {
         let e = name_fault(lent, topics, i);
         if e != 0 {
             return e;
         }
-        i = i + 1;
     }
     0
 }

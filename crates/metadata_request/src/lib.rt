@@ -8,16 +8,10 @@ mod writing;
 
 pub use crate::writing::write;
 
-// Whether the broker may create topics: a writer may leave it unset, and then it may.
-#[derive(Drop)]
-pub enum Creation {
-    Unset,
-    Set(bool),
-}
-
-// The own row of a request: the number of topics, the cell of -1 for null (all topics), and auto-creation.
-#[derive(Drop)]
+// The own row of a request: the number of topics, the cell of -1 for null (all topics), and auto-creation, whether the broker may create topics.
+// A writer may leave auto-creation unset, and then it may.
+#[derive(Clone, Copy)]
 pub struct RequestBody {
     pub topics: u64,
-    pub creation: Creation,
+    pub creation: Option<bool>,
 }

@@ -9,7 +9,7 @@ ghost use Rattle.metadata_request.specs.Shapes.{name_shape, request_shape};
 
 use crate::judge::name_fault;
 use body_writing::blames::{Blamed, blamed_by};
-use names::{METADATA_REQUEST, Named, begin, is_fieldless, without_field};
+use names::{Found, METADATA_REQUEST, Named, begin, is_fieldless, without_field};
 use primitives::Refusal;
 
 const TOPICS: usize = 1;
@@ -18,16 +18,13 @@ const TOPICS: usize = 1;
 fn names(e: u8, lent: &[u8], topics: &[u64], begun: &mut [u64]) -> Blamed
     ensures { of_blamed begun.new result ≡ rows_blame lent.now e name_shape 2 1 topics.now begun.old }
 {
-    let n = topics.len() / 2;
-    let mut i: usize = 0;
-    while i < n {
+    for i in 0..topics.len() / 2 {
         let row = begin(begun, TOPICS);
         if name_fault(lent, topics, i) == e {
-            return Blamed::Found { row, field: 0 };
+            return Err(Found { row, field: 0 });
         }
-        i = i + 1;
     }
-    Blamed::Past
+    Ok(())
 }
 
 // The refusal e with its name. What is said of auto-creation has no part in it.

@@ -1,5 +1,5 @@
 // The body of a Metadata request, versions 0 to 4: an array of names, or null, and from version 4 on whether topics may be created.
-ghost use Rattle.std.specs.Prelude.{cond, false, ◌≡◌, [], ◌∷◌, get_or, length, ◌/◌, ◌<◌};
+ghost use Rattle.std.specs.Prelude.{false, is_some, ◌≡◌, [], ◌∷◌, get_or, length, ◌/◌, ◌<◌};
 ghost use Rattle.layout.specs.Answers.{write_alone, write_answer};
 ghost use Rattle.layout.specs.Messages.Metadata as Meta;
 ghost use Rattle.layout.specs.Primitives.{fixed, kept, w32};
@@ -9,13 +9,13 @@ ghost use Rattle.layout.specs.Tables.{rows_of};
 ghost use Rattle.primitives_put.specs.Step.{Capped};
 ghost use Rattle.body_writing.specs.Writes.{bytes_at, counted_bytes, refusal_of, row_bytes, rows_bytes};
 ghost use Rattle.primitives_put.specs.Answers.{replied};
-ghost use Rattle.metadata_request.specs.Answers.{of_creation, of_request};
-ghost use Rattle.metadata_request.specs.Shapes.{creation_field, creation_shape, name_shape, request_shape, topics_shape};
+ghost use Rattle.metadata_request.specs.Answers.{flag_row, of_request};
+ghost use Rattle.metadata_request.specs.Shapes.{creation_shape, name_shape, request_shape, topics_shape};
 
+use crate::RequestBody;
 use crate::judge::refusal;
-use crate::{Creation, RequestBody};
 use body_writing::ranges::part;
-use primitives::{MOST, NO_VERSION, TOO_LONG, at, no_room, version_of};
+use primitives::{MINUS_ONE, MOST, NO_VERSION, TOO_LONG, at, no_room, version_of};
 use primitives_put::{Form, Written};
 
 // ---- the walk
@@ -35,14 +35,11 @@ fn name(out: &mut [u8], lent: &[u8], topics: &[u64], i: usize) -> usize
 fn names(out: &mut [u8], lent: &[u8], topics: &[u64]) -> usize
     ensures { Capped (rows_bytes lent.now name_shape 2 topics.now) out.old result out.new }
 {
-    let n = topics.len() / 2;
     let mut done: usize = 0;
-    let mut i: usize = 0;
-    while i < n {
+    for i in 0..topics.len() / 2 {
         let p = primitives_put::behind(done, out.len());
         let more = name(&mut out[p..], lent, topics, i);
         done = primitives_put::add(done, more);
-        i = i + 1;
     }
     done
 }
@@ -62,71 +59,54 @@ fn asked(out: &mut [u8], lent: &[u8], count: u64, topics: &[u64]) -> usize
     requires { Tables.count count ≡ length topics.now / 2 }
     ensures { Capped (bytes_at lent.now (topics_shape Rows.end) 0 ((count ∷ []) ∷ topics.now ∷ [])) out.old result out.new }
 {
-    if count == 18446744073709551615 {
+    if count == MINUS_ONE {
         return primitives_put::null(out, Form::Int32);
     }
     array(out, lent, topics)
 }
 
-// Auto-creation, where the version has it.
-fn creation(out: &mut [u8], has: bool, flag: bool) -> usize
-    ensures { Capped (row_bytes [] (creation_shape has) (2 ∷ cond flag 1 0 ∷ [])) out.old result out.new }
+// Auto-creation, `None` where the version lacks it.
+fn creation(out: &mut [u8], flag: Option<bool>) -> usize
+    ensures { Capped (row_bytes [] (creation_shape (is_some flag)) (flag_row flag)) out.old result out.new }
 {
-    if has {
-        return primitives_put::boolean(out, flag);
+    match flag {
+        Some(allowed) => primitives_put::boolean(out, allowed),
+        None => 0,
     }
-    0
 }
 
-fn body(out: &mut [u8], has: bool, lent: &[u8], count: u64, flag: bool, topics: &[u64]) -> usize
+fn body(out: &mut [u8], lent: &[u8], count: u64, flag: Option<bool>, topics: &[u64]) -> usize
     requires { Tables.count count ≡ length topics.now / 2 }
-    ensures { Capped (bytes_at lent.now (request_shape has) 0 ((count ∷ 2 ∷ cond flag 1 0 ∷ []) ∷ topics.now ∷ [])) out.old result out.new }
+    ensures { Capped (bytes_at lent.now (request_shape (is_some flag)) 0 ((count ∷ flag_row flag) ∷ topics.now ∷ [])) out.old result out.new }
 {
     let a = asked(out, lent, count, topics);
     let p = primitives_put::behind(a, out.len());
-    let b = creation(&mut out[p..], has, flag);
+    let b = creation(&mut out[p..], flag);
     primitives_put::add(a, b)
 }
 
 // ---- the call
 
 // At a version that is known: judged, measured and written.
-fn written(
-    out: &mut [u8],
-    has: bool,
-    lent: &[u8],
-    count: u64,
-    flag: bool,
-    topics: &[u64],
-) -> Written
-    ensures { replied result out.new ≡ write_alone (refusal_of lent.now 1 (request_shape false) (request_shape false) ((count ∷ 2 ∷ 1 ∷ []) ∷ topics.now ∷ [])) (bytes_at lent.now (request_shape has) 0 ((count ∷ 2 ∷ cond flag 1 0 ∷ []) ∷ topics.now ∷ [])) out.old }
+fn written(out: &mut [u8], lent: &[u8], count: u64, flag: Option<bool>, topics: &[u64]) -> Written
+    ensures { replied result out.new ≡ write_alone (refusal_of lent.now 1 (request_shape false) (request_shape false) ((count ∷ 2 ∷ 1 ∷ []) ∷ topics.now ∷ [])) (bytes_at lent.now (request_shape (is_some flag)) 0 ((count ∷ flag_row flag) ∷ topics.now ∷ [])) out.old }
 {
     let e = refusal(lent, count, topics);
     if e != 0 {
-        return Written::Refused(at(e, 0));
+        return Err(at(e, 0));
     }
-    let all = body(&mut out[..0], has, lent, count, flag, topics);
+    let all = body(&mut out[..0], lent, count, flag, topics);
     if MOST < all {
-        return Written::Refused(at(TOO_LONG, 0));
+        return Err(at(TOO_LONG, 0));
     }
     if out.len() < all {
-        return Written::Refused(no_room(all));
+        return Err(no_room(all));
     }
-    body(out, has, lent, count, flag, topics);
-    Written::Wrote(all)
+    body(out, lent, count, flag, topics);
+    Ok(all)
 }
 
-// Unset, the broker may create topics.
-fn is_allowed(creation: Creation) -> bool
-    ensures { result ≡ Tables.basic_of [] creation_field (of_creation creation) }
-{
-    match creation {
-        Creation::Unset => true,
-        Creation::Set(flag) => flag,
-    }
-}
-
-// `topics` are rows of start and length of a name in `lent`.
+// `topics` are rows of start and length of a name in `lent`. Unset, the broker may create topics.
 pub fn write(
     out: &mut [u8],
     version: i64,
@@ -138,9 +118,9 @@ pub fn write(
 {
     let v = version_of(version);
     if 4 < v {
-        return Written::Refused(at(NO_VERSION, 0));
+        return Err(at(NO_VERSION, 0));
     }
-    let creation = body.creation;
-    let flag = is_allowed(creation);
-    written(out, 4 <= v, lent, body.topics, flag, topics)
+    let allowed = body.creation.unwrap_or(true);
+    let flag = (4 <= v).then_some(allowed);
+    written(out, lent, body.topics, flag, topics)
 }

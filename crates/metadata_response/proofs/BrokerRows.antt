@@ -9,18 +9,15 @@ use Rattle.layout.specs.Read.{by_place, read_basic}
 use Rattle.layout.specs.Rows.{Basic, Shape, end, field, number, stands, text}
 use Rattle.layout.specs.Tables.{cells, span}
 use Rattle.primitives.specs.declared.Field.{Field}
-use Rattle.primitives.specs.Answers.{of_refusal}
-use Rattle.primitives.specs.declared.Refusal as Code
 use Rattle.body_reading.specs.Store.{Tab, add, store, tab}
 use Rattle.body_reading.specs.Walk.{Runs, on, row_from, walk}
 use Rattle.body_reading.proofs.Front.{Flat}
 use Rattle.body_reading.proofs.RowCells.{alone_no, alone_took, cells_end, cells_if_no, cells_if_took, cells_no, cells_took, first_no, first_took}
 use Rattle.body_reading.proofs.Stores.{store_append}
 use Rattle.body_reading.specs.Cells.{field_cells}
-use Rattle.metadata_response.specs.Brokers.{address_shape, at_brokers, broker_shape, filled_is, of_broker, of_broker_row}
+use Rattle.body_reading.specs.Walked.{filled}
+use Rattle.metadata_response.specs.Brokers.{address_shape, at_brokers, broker_shape, filled_is, of_broker}
 use Rattle.metadata_response.specs.declared.brokers.Broker.{Broker}
-use Rattle.metadata_response.specs.declared.brokers.BrokerRow.{BrokerRow}
-use Rattle.body_reading.specs.declared.walks.Filled.{Filled}
 
 -- ---- the address
 
@@ -92,15 +89,15 @@ pub stored_rack : (t b : Tab) (x y : Field) → x ≡ y → b ≡ store t (field
 stored_rack t b x y e g = g ∙ ap (λ (z : Field). store t (field_cells z)) (sym e)
 
 -- the address, and the rack behind it
-pub stored_broker : (t a b : Tab) (x : Broker) → a ≡ store t (x.node ∷ x.host ∷ x.len ∷ x.port ∷ []) → b ≡ store a (field_cells x.rack) → b ≡ store t (of_broker x)
-stored_broker t a b x e g = g ∙ ap (λ (y : Tab). store y (field_cells x.rack)) e ∙ store_append t (x.node ∷ x.host ∷ x.len ∷ x.port ∷ []) (field_cells x.rack)
+pub stored_broker : (t a b : Tab) (x : Broker) → a ≡ store t (x.node ∷ x.host.start ∷ x.host.len ∷ x.port ∷ []) → b ≡ store a (field_cells x.rack) → b ≡ store t (of_broker x)
+stored_broker t a b x e g = g ∙ ap (λ (y : Tab). store y (field_cells x.rack)) e ∙ store_append t (x.node ∷ x.host.start ∷ x.host.len ∷ x.port ∷ []) (field_cells x.rack)
 
-module _ (f : Bool) (s : List ℕ) (p : ℕ) (l : List ℕ) (k : ℕ) (r : BrokerRow) (h : of_broker_row r ≡ on (row_from [] (broker_shape f)) s p) where
-  pub row_no : (c : Code.Refusal) → r ≡ BrokerRow.Refused c → Runs (λ e. walk false (broker_shape f) 1) s p (at_brokers l k) (λ e. bad (of_refusal c))
-  row_no c d = record { law = λ e. alone_no (broker_shape f) (broker_flat f) 1 (at_brokers l k e) s p (of_refusal c) (ap of_broker_row (sym d) ∙ h) }
+module _ (f : Bool) (s : List ℕ) (p : ℕ) (l : List ℕ) (k : ℕ) where
+  pub row_no : (c : Refusal) → bad c ≡ on (row_from [] (broker_shape f)) s p → Runs (λ e. walk false (broker_shape f) 1) s p (at_brokers l k) (λ e. bad c)
+  row_no c h = record { law = λ e. alone_no (broker_shape f) (broker_flat f) 1 (at_brokers l k e) s p c h }
 
-  pub row_took : (x : Broker) (n : ℕ) → r ≡ BrokerRow.Took x n → (l' : List ℕ) (m : ℕ) → tab l' m ≡ store (tab l k) (of_broker x) → Runs (λ e. walk false (broker_shape f) 1) s p (at_brokers l k) (filled_is l' (Filled.Took n m))
+  pub row_took : (x : Broker) (n : ℕ) → ok (of_broker x) n ≡ on (row_from [] (broker_shape f)) s p → (l' : List ℕ) (m : ℕ) → tab l' m ≡ store (tab l k) (of_broker x) → Runs (λ e. walk false (broker_shape f) 1) s p (at_brokers l k) (filled_is l' (filled n m))
   unfolding add
-  row_took x n d l' m g = record {
-    law = λ e. (λ i. ok (e.0 ∷ g i ∷ e.1) n) ∙ alone_took (broker_shape f) (broker_flat f) 1 (at_brokers l k e) s p (of_broker x) n (ap of_broker_row (sym d) ∙ h);
+  row_took x n h l' m g = record {
+    law = λ e. (λ i. ok (e.0 ∷ g i ∷ e.1) n) ∙ alone_took (broker_shape f) (broker_flat f) 1 (at_brokers l k e) s p (of_broker x) n h;
   }

@@ -1,7 +1,7 @@
 -- a broker, read and stored
 pub mod BrokerRows
 -- numbers whose bytes are there
-pub mod Turned
+pub mod There
 -- marks, nodes, and arrays of nodes
 pub mod NodeRows
 -- partitions

@@ -13,12 +13,12 @@ use Rattle.layout.specs.Rows.{end, field, number}
 use Rattle.layout.specs.Read.{by_place, read, read_basic}
 use Rattle.layout.specs.Tables.{cells, count_cell}
 use Rattle.body_reading.specs.Walk.{Places, Runs, beside, in_place, on, walk}
-use Rattle.body_reading.specs.Walked.{beside_is, filled_is}
+use Rattle.body_reading.specs.Walked.{beside_is, counted_at, filled, filled_is}
 use Rattle.body_reading.specs.declared.walks.Filled.{Filled}
+use Rattle.std.specs.Prelude.{Result, Err, Ok}
 use Rattle.primitives.specs.Parts.{counted}
 use Rattle.primitives.specs.Answers.{of_refusal}
 use Rattle.primitives.specs.declared.Refusal as Code
-use Rattle.body_reading.specs.declared.walks.Counted.{Counted}
 use Rattle.metadata_response.specs.Numbers.{steps}
 use Rattle.metadata_response.specs.TopicShapes.{node_shape, nodes_shape}
 use Rattle.body_reading.proofs.Stores.{step_not, step_up, store_in, store_out}
@@ -29,7 +29,7 @@ use Rattle.body_reading.proofs.Chains.{Going, give_took, going_done, going_next,
 use Rattle.layout.proofs.Tests.{one_more}
 use Rattle.body_reading.proofs.Arrays.{array_no, array_no_count, array_took, row_end}
 use Rattle.body_reading.proofs.Beside.{behind_count, items_beside}
-use Rattle.metadata_response.proofs.Turned.{cell_missing}
+use Rattle.metadata_response.proofs.There.{cell_missing}
 
 pub step_on : (k : ℕ) → k ≤ step k
 step_on k =
@@ -91,7 +91,7 @@ module _ (s : List ℕ) where
   unfolding read_basic
   node_read p v q h = reads_took false (number w32) end s p v q h (ok tt q) (reads_end false s q)
 
-  node_took : (p : ℕ) (l : List ℕ) (k v q : ℕ) → ok v q ≡ on (cell w32) s p → (l' : List ℕ) (m : ℕ) → tab l' m ≡ store (tab l k) (v ∷ []) → Runs (λ e. walk false node_shape e.o) s p (in_place l k) (filled_is l' (Filled.Took q m))
+  node_took : (p : ℕ) (l : List ℕ) (k v q : ℕ) → ok v q ≡ on (cell w32) s p → (l' : List ℕ) (m : ℕ) → tab l' m ≡ store (tab l k) (v ∷ []) → Runs (λ e. walk false node_shape e.o) s p (in_place l k) (filled_is l' (filled q m))
   unfolding node_shape row_cells cells
   node_took p l k v q h l' m i = record { law = λ e. placed_took false node_shape tt e (tab l k) (tab l' m) s p (v, tt) q (node_read p v q h) i }
 
@@ -133,7 +133,7 @@ module _ (s : List ℕ) (count p : ℕ) (l₀ : List ℕ) (k₀ : ℕ) where
   nodes_next n q l k g i v u h l' m d = going_next _ _ _ _ _ _ _ _ g i _ (node_took s q l k v u h l' m d) (in_place l' m) (λ e. refl)
 
   -- those that are left have no room
-  nodes_out : (n q : ℕ) (l : List ℕ) (k : ℕ) → Left n q l k → (0 < n → q + 4 * n ≤ length s) → (0 < n → length l ≤ k) → Runs (λ e. loop count (walk false node_shape e.o)) s p (in_place l₀ k₀) (filled_is l (Filled.Took (q + 4 * n) (steps n k)))
+  nodes_out : (n q : ℕ) (l : List ℕ) (k : ℕ) → Left n q l k → (0 < n → q + 4 * n ≤ length s) → (0 < n → length l ≤ k) → Runs (λ e. loop count (walk false node_shape e.o)) s p (in_place l₀ k₀) (filled_is l (filled (q + 4 * n) (steps n k)))
   unfolding steps
   nodes_out zero q l k g h r =
       let e : q + 4 * 0 ≡ q = omega arith in
@@ -182,7 +182,7 @@ module _ (s : List ℕ) (count p : ℕ) (l₀ : List ℕ) (k₀ : ℕ) where
     }
 
     -- the mark is behind all, or behind the table
-    pub filling_end : length l ≤ limit → min behind (length l) ≤ row → Runs (λ e. loop count (walk false node_shape e.o)) s p (in_place l₀ k₀) (filled_is l (Filled.Took (p + 4 * count) behind))
+    pub filling_end : length l ≤ limit → min behind (length l) ≤ row → Runs (λ e. loop count (walk false node_shape e.o)) s p (in_place l₀ k₀) (filled_is l (filled (p + 4 * count) behind))
     filling_end m r =
         let e = f.ends in
         let b = f.mark in
@@ -212,7 +212,7 @@ module _ (s : List ℕ) (p : ℕ) (l : List ℕ) (k : ℕ) where
   abbrev nulled : Places × Tab → State
   nulled e = add e.0.o (minus ∷ []) (beside l k e)
 
-  pub count_null : (q : ℕ) → ok 0 q ≡ on (counted nullable) s p → Runs (λ e. walk false (nodes_shape e.0.t) e.0.o) s p (beside l k) (beside_is l (Counted.Took minus q k))
+  pub count_null : (q : ℕ) → ok 0 q ≡ on (counted nullable) s p → Runs (λ e. walk false (nodes_shape e.0.t) e.0.o) s p (beside l k) (beside_is l (counted_at minus q k))
   unfolding counted nodes_shape count_cell loop
   count_null q h = record {
     law = λ e.
@@ -220,22 +220,22 @@ module _ (s : List ℕ) (p : ℕ) (l : List ℕ) (k : ℕ) where
         ∙ array_took false nullable e.0.t node_shape end e.0.o (beside l k e) s p 0 q h (nulled e) q (ok (nulled e) q) (give_took (nulled e) s q) (row_end false e.0.o (nulled e) s q);
   }
 
-  module _ (n q : ℕ) (d : ok (n + 1) q ≡ on (counted nullable) s p) (l' : List ℕ) (r : Filled) (h : Runs (λ e. loop n (walk false node_shape e.o)) s q (in_place l k) (filled_is l' r)) where
+  module _ (n q : ℕ) (d : ok (n + 1) q ≡ on (counted nullable) s p) (l' : List ℕ) (r : Result Filled Code.Refusal) (h : Runs (λ e. loop n (walk false node_shape e.o)) s q (in_place l k) (filled_is l' r)) where
     abbrev stored : ℕ → Places × Tab → State
     stored j e = e.0.h (store e.1 (n ∷ [])) (tab l' j)
 
-    looped : (y : Filled) → r ≡ y → (e : Places × Tab) → filled_is l' y (behind_count e.0 e.1 n) ≡ on (loop (n + 1 - 1) (walk false node_shape e.0.t) (add e.0.o (count_cell true (n + 1) ∷ []) (beside l k e))) s q
+    looped : (y : Result Filled Code.Refusal) → r ≡ y → (e : Places × Tab) → filled_is l' y (behind_count e.0 e.1 n) ≡ on (loop (n + 1 - 1) (walk false node_shape e.0.t) (add e.0.o (count_cell true (n + 1) ∷ []) (beside l k e))) s q
     looped y w e =
         let m : n ≡ n + 1 - 1 = omega arith in
         items_beside node_shape s q l k n n (filled_is l') r y h w e
         ∙ (λ i. on (loop (m i) (walk false node_shape e.0.t) (add e.0.o (some_count n i ∷ []) (beside l k e))) s q)
 
-    pub nodes_at_no : (c : Code.Refusal) → r ≡ Filled.Refused c → Runs (λ e. walk false (nodes_shape e.0.t) e.0.o) s p (beside l k) (beside_is l' (Counted.Refused c))
+    pub nodes_at_no : (c : Code.Refusal) → r ≡ Err c → Runs (λ e. walk false (nodes_shape e.0.t) e.0.o) s p (beside l k) (beside_is l' (Err c))
     unfolding counted nodes_shape
-    nodes_at_no c i = record { law = λ e. array_no false nullable e.0.t node_shape end e.0.o (beside l k e) s p (n + 1) q d (of_refusal c) (looped (Filled.Refused c) i e) }
+    nodes_at_no c i = record { law = λ e. array_no false nullable e.0.t node_shape end e.0.o (beside l k e) s p (n + 1) q d (of_refusal c) (looped (Err c) i e) }
 
-    pub nodes_at_took : (u j : ℕ) → r ≡ Filled.Took u j → Runs (λ e. walk false (nodes_shape e.0.t) e.0.o) s p (beside l k) (beside_is l' (Counted.Took n u j))
+    pub nodes_at_took : (a : Filled) → r ≡ Ok a → Runs (λ e. walk false (nodes_shape e.0.t) e.0.o) s p (beside l k) (beside_is l' (counted_at n a.next a.mark))
     unfolding counted nodes_shape behind_count
-    nodes_at_took u j i = record {
-      law = λ e. array_took false nullable e.0.t node_shape end e.0.o (beside l k e) s p (n + 1) q d (stored j e) u (ok (stored j e) u) (looped (Filled.Took u j) i e) (row_end false e.0.o (stored j e) s u);
+    nodes_at_took a i = record {
+      law = λ e. array_took false nullable e.0.t node_shape end e.0.o (beside l k e) s p (n + 1) q d (stored a.mark e) a.next (ok (stored a.mark e) a.next) (looped (Ok a) i e) (row_end false e.0.o (stored a.mark e) s a.next);
     }

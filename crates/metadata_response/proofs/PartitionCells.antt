@@ -11,16 +11,14 @@ use Rattle.layout.specs.Primitives.{cell, fixed, kept, w16, w32}
 use Rattle.layout.specs.Rows.{Shape, array, end, field, number}
 use Rattle.layout.specs.Read.{read_basic}
 use Rattle.layout.specs.Tables.{cells}
-use Rattle.primitives.specs.declared.Refusal as Code
 use Rattle.body_reading.specs.Store.{State, Tab, add, step, store, tab}
 use Rattle.body_reading.specs.Walk.{Places, Runs, beside, on, row_from, walk}
-use Rattle.primitives.specs.Answers.{of_refusal}
+use Rattle.primitives.specs.Answers.{taken}
+use Rattle.std.specs.Prelude.{Ok}
 use Rattle.body_reading.specs.Walked.{beside_is}
 use Rattle.body_reading.specs.declared.walks.Counted.{Counted}
 use Rattle.metadata_response.specs.TopicShapes.{node_shape, nodes_shape, partition_front, partition_shape}
-use Rattle.metadata_response.specs.TopicWalks.{Before, RowStored, in_partitions, of_partition_row, partitions_is}
-use Rattle.metadata_response.specs.declared.partitions.PartitionRow.{PartitionRow}
-use Rattle.metadata_response.specs.declared.marks.Marked.{Marked}
+use Rattle.metadata_response.specs.TopicWalks.{Before, RowStored, in_partitions, partitions_is}
 use Rattle.metadata_response.specs.declared.marks.Marks.{Marks}
 use Rattle.layout.proofs.Local.{not_ok}
 use Rattle.body_reading.proofs.FrontAt.{cell_at}
@@ -28,7 +26,7 @@ use Rattle.body_reading.proofs.Chains.{same_value}
 use Rattle.body_reading.proofs.Stores.{four_out, store_append, store_both}
 use Rattle.body_reading.proofs.RowCells.{cells_end, cells_no, cells_took, row_no, row_took}
 use Rattle.body_reading.proofs.Joined.{joined_no, joined_took}
-use Rattle.metadata_response.proofs.Turned.{cell_missing, cell_on}
+use Rattle.metadata_response.proofs.There.{cell_missing, cell_on}
 use Rattle.primitives.proofs.Behind.{rest_in}
 
 module _ (s : List ℕ) (p : ℕ) where
@@ -95,13 +93,12 @@ module _ (s : List ℕ) (p : ℕ) where
     pub row_out : (m : ℕ) → m ≡ step (step (step (step k))) → length l ≤ k → tab l' r ≡ store (tab l m) (synced ∷ []) → RowStored s p l k count synced l' r
     row_out m e h i = record { law = λ a b c q d. store_both (tab l k) (tab l m) (tab l' r) (a ∷ b ∷ c ∷ count ∷ []) (synced ∷ []) (four_out l k a b c count m e h) i }
 
-    module _ (x : PartitionRow) (h : of_partition_row x ≡ on (row_from [] partition_front) s p) where
-      pub row_in : (a b c q : ℕ) → x ≡ PartitionRow.Took a b c q → tab l' r ≡ store (tab l k) (a ∷ b ∷ c ∷ count ∷ synced ∷ []) → RowStored s p l k count synced l' r
-      row_in a b c q d i = record { law = λ a' b' c' q' e. i ∙ ap (λ (cs : List ℕ). store (tab l k) (cs ++ (count ∷ synced ∷ []))) (same_value (sym (ap of_partition_row d) ∙ h ∙ sym e)) }
+    pub row_in : (a b c q : ℕ) → ok (a ∷ b ∷ c ∷ []) q ≡ on (row_from [] partition_front) s p → tab l' r ≡ store (tab l k) (a ∷ b ∷ c ∷ count ∷ synced ∷ []) → RowStored s p l k count synced l' r
+    row_in a b c q h i = record { law = λ a' b' c' q' e. i ∙ ap (λ (cs : List ℕ). store (tab l k) (cs ++ (count ∷ synced ∷ []))) (same_value (h ∙ sym e)) }
 
-      -- there is no such row
-      pub row_none : (c : Code.Refusal) → x ≡ PartitionRow.Refused c → RowStored s p l k count synced l' r
-      row_none c d = record { law = λ a b c q e. not_ok (sym (ap of_partition_row d) ∙ h ∙ sym e) }
+    -- there is no such row
+    pub row_none : (c : Refusal) → bad c ≡ on (row_from [] partition_front) s p → RowStored s p l k count synced l' r
+    row_none d h = record { law = λ a b c q e. not_ok (h ∙ sym e) }
 
 -- behind the numbers: replicas, and in-sync replicas
 abbrev arrays : Shape
@@ -116,52 +113,44 @@ place_two : Before → Marks → List ℕ → ℕ → Places
 unfolding add
 place_two e m rs k = record { h = λ x y. e.row ∷ e.brokers ∷ tab e.topics m.topics ∷ x ∷ tab rs k ∷ y ∷ []; o = 3; t = 5; row_law = λ x y cs. refl; items_law = λ x y cs. refl }
 
-module _ (s : List ℕ) (p : ℕ) (ps rs is : List ℕ) (m : Marks) (r : PartitionRow) (h : of_partition_row r ≡ on (row_from [] partition_front) s p) where
-  pub partition_no : (c : Code.Refusal) → r ≡ PartitionRow.Refused c → Runs (λ e. walk false partition_shape 3) s p (in_partitions ps rs is m) (λ e. bad (of_refusal c))
+module _ (s : List ℕ) (p : ℕ) (ps rs is : List ℕ) (m : Marks) where
+  pub partition_no : (c : Refusal) → bad c ≡ on (row_from [] partition_front) s p → Runs (λ e. walk false partition_shape 3) s p (in_partitions ps rs is m) (λ e. bad c)
   unfolding partition_shape partition_front
-  partition_no c d = record { law = λ e. row_no partition_front tt s p arrays 3 (in_partitions ps rs is m e) (of_refusal c) (ap of_partition_row (sym d) ∙ h) }
+  partition_no c h = record { law = λ e. row_no partition_front tt s p arrays 3 (in_partitions ps rs is m e) c h }
 
-  module _ (a b c q : ℕ) (d : r ≡ PartitionRow.Took a b c q) where
+  module _ (a b c q : ℕ) (h : ok (a ∷ b ∷ c ∷ []) q ≡ on (row_from [] partition_front) s p) where
     -- the partitions' table once the numbers are stored
     abbrev numbered : Tab
     numbered = store (tab ps m.partitions) (a ∷ b ∷ c ∷ [])
 
     from_numbers : (e : Before) (z : Res State) → z ≡ on (walk false arrays 3 (e.row ∷ e.brokers ∷ tab e.topics m.topics ∷ numbered ∷ tab rs m.replicas ∷ tab is m.synced ∷ [])) s q → z ≡ on (walk false partition_shape 3 (in_partitions ps rs is m e)) s p
     unfolding partition_shape partition_front add
-    from_numbers e z g = row_took partition_front tt s p arrays 3 (in_partitions ps rs is m e) (a ∷ b ∷ c ∷ []) q (ap of_partition_row (sym d) ∙ h) z g
+    from_numbers e z g = row_took partition_front tt s p arrays 3 (in_partitions ps rs is m e) (a ∷ b ∷ c ∷ []) q h z g
 
-    module _ (rs' : List ℕ) (x : Counted) (l : Runs (λ e. walk false (nodes_shape e.0.t) e.0.o) s q (beside rs m.replicas) (beside_is rs' x)) where
-      pub replicas_no : (f : Code.Refusal) → x ≡ Counted.Refused f → Runs (λ e. walk false partition_shape 3) s p (in_partitions ps rs is m) (λ e. bad (of_refusal f))
+    pub replicas_no : (d : Refusal) → Runs (λ e. walk false (nodes_shape e.0.t) e.0.o) s q (beside rs m.replicas) (λ e. bad d) → Runs (λ e. walk false partition_shape 3) s p (in_partitions ps rs is m) (λ e. bad d)
+    unfolding place_one nodes_shape
+    replicas_no d l = record { law = λ e. from_numbers e _ (joined_no false (nodes_shape 5) 3 (nodes_shape 4) _ s q d (l.law (place_one e m is, numbered))) }
+
+    module _ (rs' : List ℕ) (x : Counted) (l : Runs (λ e. walk false (nodes_shape e.0.t) e.0.o) s q (beside rs m.replicas) (beside_is rs' (Ok x))) where
+      abbrev with_replicas : Tab
+      with_replicas = store numbered (x.count ∷ [])
+
+      from_replicas : (e : Before) (z : Res State) → z ≡ on (walk false (nodes_shape 5) 3 (e.row ∷ e.brokers ∷ tab e.topics m.topics ∷ with_replicas ∷ tab rs' x.mark ∷ tab is m.synced ∷ [])) s x.next → z ≡ on (walk false partition_shape 3 (in_partitions ps rs is m e)) s p
       unfolding place_one nodes_shape
-      replicas_no f g = record {
-        law = λ e. from_numbers e _ (joined_no false (nodes_shape 5) 3 (nodes_shape 4) _ s q (of_refusal f) (ap (λ (y : Counted). beside_is rs' y (place_one e m is, numbered)) (sym g) ∙ l.law (place_one e m is, numbered)));
+      from_replicas e z j = from_numbers e z (joined_took false (nodes_shape 5) 3 (nodes_shape 4) _ s q _ x.next (l.law (place_one e m is, numbered)) z j)
+
+      pub synced_no : (d : Refusal) → Runs (λ e. walk false (nodes_shape e.0.t) e.0.o) s x.next (beside is m.synced) (λ e. bad d) → Runs (λ e. walk false partition_shape 3) s p (in_partitions ps rs is m) (λ e. bad d)
+      unfolding place_two
+      synced_no d l₂ = record { law = λ e. from_replicas e _ (l₂.law (place_two e m rs' x.mark, with_replicas)) }
+
+      pub partition_took : (is' : List ℕ) (y : Counted) → Runs (λ e. walk false (nodes_shape e.0.t) e.0.o) s x.next (beside is m.synced) (beside_is is' (Ok y)) → (ps' : List ℕ) (i : ℕ) → tab ps' i ≡ store (tab ps m.partitions) (a ∷ b ∷ c ∷ x.count ∷ y.count ∷ []) →
+          Runs (λ e. walk false partition_shape 3) s p (in_partitions ps rs is m) (partitions_is ps' rs' is' (taken (record { topics = m.topics; partitions = i; replicas = x.mark; synced = y.mark }) y.next))
+      unfolding place_two
+      partition_took is' y l₂ ps' i w = record {
+        law = λ e.
+            (λ t. ok (e.row ∷ e.brokers ∷ tab e.topics m.topics ∷ (w ∙ sym both) t ∷ tab rs' x.mark ∷ tab is' y.mark ∷ []) y.next)
+            ∙ from_replicas e _ (l₂.law (place_two e m rs' x.mark, with_replicas));
       }
-
-      module _ (n u k : ℕ) (g : x ≡ Counted.Took n u k) where
-        abbrev with_replicas : Tab
-        with_replicas = store numbered (n ∷ [])
-
-        from_replicas : (e : Before) (z : Res State) → z ≡ on (walk false (nodes_shape 5) 3 (e.row ∷ e.brokers ∷ tab e.topics m.topics ∷ with_replicas ∷ tab rs' k ∷ tab is m.synced ∷ [])) s u → z ≡ on (walk false partition_shape 3 (in_partitions ps rs is m e)) s p
-        unfolding place_one nodes_shape
-        from_replicas e z j = from_numbers e z (joined_took false (nodes_shape 5) 3 (nodes_shape 4) _ s q _ u (ap (λ (y : Counted). beside_is rs' y (place_one e m is, numbered)) (sym g) ∙ l.law (place_one e m is, numbered)) z j)
-
-        module _ (is' : List ℕ) (y : Counted) (l₂ : Runs (λ e. walk false (nodes_shape e.0.t) e.0.o) s u (beside is m.synced) (beside_is is' y)) where
-          from_synced : (e : Before) → beside_is is' y (place_two e m rs' k, with_replicas) ≡ on (walk false partition_shape 3 (in_partitions ps rs is m e)) s p
-          unfolding place_two
-          from_synced e = from_replicas e _ (l₂.law (place_two e m rs' k, with_replicas))
-
-          pub synced_no : (f : Code.Refusal) → y ≡ Counted.Refused f → Runs (λ e. walk false partition_shape 3) s p (in_partitions ps rs is m) (λ e. bad (of_refusal f))
-          synced_no f j = record { law = λ e. ap (λ (y : Counted). beside_is is' y (place_two e m rs' k, with_replicas)) (sym j) ∙ from_synced e }
-
-          pub partition_took : (n₂ v k₂ : ℕ) → y ≡ Counted.Took n₂ v k₂ → (ps' : List ℕ) (i : ℕ) → tab ps' i ≡ store (tab ps m.partitions) (a ∷ b ∷ c ∷ n ∷ n₂ ∷ []) →
-              Runs (λ e. walk false partition_shape 3) s p (in_partitions ps rs is m) (partitions_is ps' rs' is' (Marked.Took v (record { topics = m.topics; partitions = i; replicas = k; synced = k₂ })))
-          unfolding place_two
-          partition_took n₂ v k₂ j ps' i w = record {
-            law = λ e.
-                (λ t. ok (e.row ∷ e.brokers ∷ tab e.topics m.topics ∷ (w ∙ sym both) t ∷ tab rs' k ∷ tab is' k₂ ∷ []) v)
-                ∙ ap (λ (y : Counted). beside_is is' y (place_two e m rs' k, with_replicas)) (sym j)
-                ∙ from_synced e;
-          }
-            where
-              both : store with_replicas (n₂ ∷ []) ≡ store (tab ps m.partitions) (a ∷ b ∷ c ∷ n ∷ n₂ ∷ [])
-              both = store_append numbered (n ∷ []) (n₂ ∷ []) ∙ store_append (tab ps m.partitions) (a ∷ b ∷ c ∷ []) (n ∷ n₂ ∷ [])
+        where
+          both : store with_replicas (y.count ∷ []) ≡ store (tab ps m.partitions) (a ∷ b ∷ c ∷ x.count ∷ y.count ∷ [])
+          both = store_append numbered (x.count ∷ []) (y.count ∷ []) ∙ store_append (tab ps m.partitions) (a ∷ b ∷ c ∷ []) (x.count ∷ y.count ∷ [])

@@ -9,15 +9,13 @@ use Rattle.layout.specs.Rows.{Basic, Shape, array, boolean, end, field, number, 
 use Rattle.layout.specs.Read.{by_place, read_basic}
 use Rattle.layout.specs.Tables.{Span, cells, span}
 use Rattle.body_reading.specs.Walk.{Runs, on, row_from, walk}
-use Rattle.primitives.specs.Answers.{of_refusal}
-use Rattle.primitives.specs.declared.Refusal as Code
+use Rattle.primitives.specs.Answers.{Read, of_refusal}
+use Rattle.std.specs.Prelude.{Ok, Err}
 use Rattle.body_reading.specs.Moved.{array_items}
 use Rattle.body_reading.specs.Store.{State, Tab, add, store, tab}
 use Rattle.metadata_response.specs.TopicShapes.{partition_shape, topic_front, topic_shape}
-use Rattle.metadata_response.specs.TopicWalks.{Before, in_partitions, in_topics, of_topic_row, partitions_is, topics_is}
-use Rattle.metadata_response.specs.declared.marks.Marked.{Marked}
+use Rattle.metadata_response.specs.TopicWalks.{Before, in_partitions, in_topics, partitions_is, topics_is}
 use Rattle.metadata_response.specs.declared.marks.Marks.{Marks}
-use Rattle.metadata_response.specs.declared.topics.TopicRow.{TopicRow}
 use Rattle.body_reading.proofs.RowCells.{cells_end, cells_if_no, cells_if_took, cells_no, cells_took, row_no, row_took}
 use Rattle.body_reading.proofs.Arrays.{items_no, items_no_count, items_took, row_end}
 use Rattle.body_reading.proofs.Front.{Flat, onto}
@@ -64,21 +62,21 @@ unfolding topic_front topic_shape stands
 whole true = refl
 whole false = refl
 
-module _ (f : Bool) (s : List ℕ) (p : ℕ) (ts ps rs is : List ℕ) (m : Marks) (r : TopicRow) (h : of_topic_row r ≡ on (row_from [] (topic_front f)) s p) where
+module _ (f : Bool) (s : List ℕ) (p : ℕ) (ts ps rs is : List ℕ) (m : Marks) where
   as_whole : (e : Tab × Tab) → on (walk false (onto (topic_front f) partitions) 2 (in_topics ts ps rs is m e)) s p ≡ on (walk false (topic_shape f) 2 (in_topics ts ps rs is m e)) s p
   as_whole e = ap (λ (l : Shape). on (walk false l 2 (in_topics ts ps rs is m e)) s p) (whole f)
 
-  pub topic_no : (c : Code.Refusal) → r ≡ TopicRow.Refused c → Runs (λ e. walk false (topic_shape f) 2) s p (in_topics ts ps rs is m) (λ e. bad (of_refusal c))
-  topic_no c d = record { law = λ e. row_no (topic_front f) (flat f) s p partitions 2 (in_topics ts ps rs is m e) (of_refusal c) (ap of_topic_row (sym d) ∙ h) ∙ as_whole e }
+  pub topic_no : (c : Refusal) → bad c ≡ on (row_from [] (topic_front f)) s p → Runs (λ e. walk false (topic_shape f) 2) s p (in_topics ts ps rs is m) (λ e. bad c)
+  topic_no c h = record { law = λ e. row_no (topic_front f) (flat f) s p partitions 2 (in_topics ts ps rs is m e) c h ∙ as_whole e }
 
-  module _ (a b k i q : ℕ) (d : r ≡ TopicRow.Took a b k i q) where
+  module _ (a b k i q : ℕ) (h : ok (a ∷ b ∷ k ∷ i ∷ []) q ≡ on (row_from [] (topic_front f)) s p) where
     -- the tables once the fields are stored
     abbrev fielded : Tab × Tab → State
     fielded e = e.0 ∷ e.1 ∷ store (tab ts m.topics) (a ∷ b ∷ k ∷ i ∷ []) ∷ tab ps m.partitions ∷ tab rs m.replicas ∷ tab is m.synced ∷ []
 
     from_fields : (e : Tab × Tab) (z : Res State) → z ≡ on (walk false partitions 2 (fielded e)) s q → z ≡ on (walk false (topic_shape f) 2 (in_topics ts ps rs is m e)) s p
     unfolding add
-    from_fields e z g = row_took (topic_front f) (flat f) s p partitions 2 (in_topics ts ps rs is m e) (a ∷ b ∷ k ∷ i ∷ []) q (ap of_topic_row (sym d) ∙ h) z g ∙ as_whole e
+    from_fields e z g = row_took (topic_front f) (flat f) s p partitions 2 (in_topics ts ps rs is m e) (a ∷ b ∷ k ∷ i ∷ []) q h z g ∙ as_whole e
 
     pub count_no : (c : Refusal) → bad c ≡ on (array_items false false) s q → Runs (λ e. walk false (topic_shape f) 2) s p (in_topics ts ps rs is m) (λ e. bad c)
     unfolding array_items
@@ -96,10 +94,10 @@ module _ (f : Bool) (s : List ℕ) (p : ℕ) (ts ps rs is : List ℕ) (m : Marks
       unfolding add
       stored e = ap (λ (y : Tab). e.0 ∷ e.1 ∷ y ∷ tab ps m.partitions ∷ tab rs m.replicas ∷ tab is m.synced ∷ []) (j ∙ sym (store_append (tab ts m.topics) (a ∷ b ∷ k ∷ i ∷ []) (n ∷ [])))
 
-      pub topic_took : (ps' rs' is' : List ℕ) (y : Marked) → Runs (λ e. loop n (walk false partition_shape 3)) s u (in_partitions ps rs is marked) (partitions_is ps' rs' is' y) → Runs (λ e. walk false (topic_shape f) 2) s p (in_topics ts ps rs is m) (topics_is ts' ps' rs' is' y)
+      pub topic_took : (ps' rs' is' : List ℕ) (y : Read Marks) → Runs (λ e. loop n (walk false partition_shape 3)) s u (in_partitions ps rs is marked) (partitions_is ps' rs' is' y) → Runs (λ e. walk false (topic_shape f) 2) s p (in_topics ts ps rs is m) (topics_is ts' ps' rs' is' y)
       unfolding array_items
       topic_took ps' rs' is' y l = record { law = λ e. from_fields e _ (go e y (l.law (before e) ∙ ap (λ (st : State). on (loop n (walk false partition_shape 3) st) s u) (stored e))) }
         where
-          go : (e : Tab × Tab) (y : Marked) → partitions_is ps' rs' is' y (before e) ≡ on (loop n (walk false partition_shape 3) (add 2 (n ∷ []) (fielded e))) s u → topics_is ts' ps' rs' is' y e ≡ on (walk false partitions 2 (fielded e)) s q
-          go e (Marked.Took v m') w = items_took false (fixed w32 empty) refl 3 partition_shape end 2 (fielded e) s q n u g _ v _ w (row_end false 2 _ s v)
-          go e (Marked.Refused c) w = items_no false (fixed w32 empty) refl 3 partition_shape end 2 (fielded e) s q n u g (of_refusal c) w
+          go : (e : Tab × Tab) (y : Read Marks) → partitions_is ps' rs' is' y (before e) ≡ on (loop n (walk false partition_shape 3) (add 2 (n ∷ []) (fielded e))) s u → topics_is ts' ps' rs' is' y e ≡ on (walk false partitions 2 (fielded e)) s q
+          go e (Ok v) w = items_took false (fixed w32 empty) refl 3 partition_shape end 2 (fielded e) s q n u g _ v.next _ w (row_end false 2 _ s v.next)
+          go e (Err c) w = items_no false (fixed w32 empty) refl 3 partition_shape end 2 (fielded e) s q n u g (of_refusal c) w

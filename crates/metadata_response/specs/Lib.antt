@@ -8,7 +8,7 @@ pub mod Shapes
 -- what the walks over them say
 pub mod TopicWalks
 pub mod Walks
--- numbers whose bytes are there, and marks
+-- marks
 pub mod Numbers
 -- the parts that a walk to a field takes by themselves
 pub mod Seek

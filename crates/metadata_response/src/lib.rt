@@ -2,8 +2,7 @@
 // Numbers are cells, as in the tables: 64 bits, two's complement.
 #![tactic(auto)]
 
-use body_reading::versioned::Versioned;
-use primitives::{Field, Refusal};
+use primitives::{Field, Read};
 
 pub mod body;
 pub mod brokers;
@@ -18,18 +17,14 @@ mod topics;
 pub use crate::reading::read;
 
 // The own row of a response: throttle time (from version 3 on), number of brokers, cluster (from 2 on, and it may be null), controller (from 1 on), and number of topics.
-#[derive(Drop)]
+#[derive(Clone, Copy)]
 pub struct ResponseBody {
-    pub throttle: Versioned,
+    pub throttle: Option<u64>,
     pub brokers: u64,
     pub cluster: Field,
-    pub controller: Versioned,
+    pub controller: Option<u64>,
     pub topics: u64,
 }
 
-// The own row of a response and the bytes used.
-#[derive(Drop)]
-pub enum ResponseReply {
-    Took { body: ResponseBody, used: usize },
-    Refused(Refusal),
-}
+// The own row of a response, and the number of bytes used.
+pub type ResponseReply = Read<ResponseBody>;

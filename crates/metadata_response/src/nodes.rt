@@ -1,5 +1,5 @@
 // Arrays of nodes: replicas, and in-sync replicas. A null one stays null: its count is the cell of -1.
-ghost use Rattle.std.specs.Prelude.{◌≡◌, false, ◌≤◌, min};
+ghost use Rattle.std.specs.Prelude.{◌≡◌, false, ◌≤◌};
 ghost use Rattle.layout.specs.Reading.{loop};
 ghost use Rattle.body_reading.specs.Store.{limit};
 ghost use Rattle.body_reading.specs.Walk.{Runs, beside, in_place, walk};
@@ -10,21 +10,13 @@ ghost use Rattle.body_reading.specs.Walked.{beside_is, filled_is};
 use crate::numbers::{count_at, int32_there};
 use body_reading::tables::{LIMIT, less};
 use body_reading::walks::{Counted, Filled};
-use primitives::{BYTES_END, Count, at};
+use primitives::{BYTES_END, MINUS_ONE, Refusal, at};
 
-// The cell of -1: null.
-const NULL: u64 = 18446744073709551615;
+// The cell of a null array.
+const NULL: u64 = MINUS_ONE;
 
-fn smaller(a: usize, b: usize) -> usize
-    ensures { result ≡ min a b }
-{
-    if a <= b {
-        return a;
-    }
-    b
-}
-
-// The mark behind n cells, room or not.
+// The mark after n cells, room or not.
+#[tactic(auto, using(crate::proofs::NodeRows::steps_near, crate::proofs::NodeRows::steps_over, crate::proofs::NodeRows::steps_stop))]
 fn passed(mark: usize, n: usize) -> usize
     requires { n ≤ limit }
     ensures { result ≡ steps n mark }
@@ -40,47 +32,57 @@ fn passed(mark: usize, n: usize) -> usize
 
 // `count` nodes from place p on, of four bytes each, which are asked for at once. Where some are missing no node need be stored: the tables of a refusal are not told.
 // Nodes without room are not looked at.
-fn nodes_in(s: &[u8], p: usize, count: u64, table: &mut [u64], mark: usize) -> Filled
+fn nodes_in(
+    s: &[u8],
+    p: usize,
+    count: u64,
+    table: &mut [u64],
+    mark: usize,
+) -> Result<Filled, Refusal>
     ensures { Runs (λ e. loop count (walk false node_shape e.o)) s.now p (in_place table.old mark) (filled_is table.new result) }
 {
     let there = less(s.len(), p) / 4;
     if (there as u64) < count {
-        return Filled::Refused(at(BYTES_END, p + 4 * there));
+        return Err(at(BYTES_END, p + 4 * there));
     }
     let n = count as usize;
-    let behind = passed(mark, n);
-    let end = smaller(behind, table.len());
-    let mut row = mark;
+    let after = passed(mark, n);
+    let end = after.min(table.len());
+    // `place` beside `row`: an iterator over parts of both is no plainer, since the mark may lie after the table's end.
     let mut place = p;
-    while row < end {
+    for row in mark..end {
         table[row] = int32_there(&s[place..]);
-        row = row + 1;
-        place = place + 4;
+        place += 4;
     }
-    Filled::Took {
+    Ok(Filled {
         next: p + 4 * n,
-        mark: behind,
-    }
+        mark: after,
+    })
 }
 
 // An array of nodes at place p.
-pub(crate) fn nodes_at(s: &[u8], p: usize, table: &mut [u64], mark: usize) -> Counted
+pub(crate) fn nodes_at(
+    s: &[u8],
+    p: usize,
+    table: &mut [u64],
+    mark: usize,
+) -> Result<Counted, Refusal>
     ensures { Runs (λ e. walk false (nodes_shape e.0.t) e.0.o) s.now p (beside table.old mark) (beside_is table.new result) }
 {
-    match count_at(s, p) {
-        Count::Took { count, used } => match nodes_in(s, used, count, table, mark) {
-            Filled::Took { next, mark: behind } => Counted::Took {
+    let number = count_at(s, p)?;
+    match number.value {
+        Some(count) => {
+            let nodes = nodes_in(s, number.next, count, table, mark)?;
+            Ok(Counted {
                 count,
-                next,
-                mark: behind,
-            },
-            Filled::Refused(e) => Counted::Refused(e),
-        },
-        Count::Null { used } => Counted::Took {
+                next: nodes.next,
+                mark: nodes.mark,
+            })
+        }
+        None => Ok(Counted {
             count: NULL,
-            next: used,
+            next: number.next,
             mark,
-        },
-        Count::Refused(e) => Counted::Refused(e),
+        }),
     }
 }

@@ -6,26 +6,22 @@ ghost use Rattle.body_reading.specs.Walk.{Runs, on, row_from, walk};
 ghost use Rattle.metadata_response.specs.TopicShapes.{partition_front, partition_shape};
 ghost use Rattle.metadata_response.specs.TopicWalks.{RowStored, in_partitions, of_partition_row, partitions_is};
 
-use crate::marks::{Marked, Marks};
+use crate::marks::Marks;
 use crate::nodes::nodes_at;
 use crate::numbers::{int16_there, int32_there};
-use body_reading::tables::{less, skip4, store, store5};
-use body_reading::walks::Counted;
-use primitives::{BYTES_END, Refusal, at};
+use body_reading::tables::{less, skip4, store, store_row};
+use primitives::{BYTES_END, Read, Refusal, Taken, at};
 
-// The numbers of a partition, and the place behind them.
-#[derive(Drop)]
-pub(crate) enum PartitionRow {
-    Took {
-        error: u64,
-        index: u64,
-        leader: u64,
-        next: usize,
-    },
-    Refused(Refusal),
+// The numbers of a partition.
+#[derive(Clone, Copy)]
+pub(crate) struct PartitionRow {
+    pub error: u64,
+    pub index: u64,
+    pub leader: u64,
 }
 
 // Not all bytes of a partition's numbers are there: the first number that is not whole is refused.
+#[tactic(auto, using(crate::proofs::PartitionCells::error_missing, crate::proofs::PartitionCells::index_missing, crate::proofs::PartitionCells::leader_missing))]
 fn row_missing(s: &[u8], p: usize) -> Refusal
     requires { length s.now < p + 10 }
     ensures { bad (of_refusal result) ≡ on (row_from [] partition_front) s.now p }
@@ -41,19 +37,22 @@ fn row_missing(s: &[u8], p: usize) -> Refusal
 }
 
 // An INT16 and two INT32, each given what the one before it left: their ten bytes are asked for at once.
-fn partition_row(s: &[u8], p: usize) -> PartitionRow
+#[tactic(auto, using(crate::proofs::PartitionCells::numbers_left))]
+fn partition_row(s: &[u8], p: usize) -> Read<PartitionRow>
     ensures { of_partition_row result ≡ on (row_from [] partition_front) s.now p }
 {
     if p < less(s.len(), 9) {
         let rest = &s[p..];
-        return PartitionRow::Took {
-            error: int16_there(rest),
-            index: int32_there(&rest[2..]),
-            leader: int32_there(&rest[6..]),
+        return Ok(Taken {
+            value: PartitionRow {
+                error: int16_there(rest),
+                index: int32_there(&rest[2..]),
+                leader: int32_there(&rest[6..]),
+            },
             next: p + 10,
-        };
+        });
     }
-    PartitionRow::Refused(row_missing(s, p))
+    Err(row_missing(s, p))
 }
 
 // The row of the partition at p. Its numbers are read again, and only where there is room: to keep them while its arrays are read costs more.
@@ -71,14 +70,20 @@ fn store_partition(
         return store(table, skip4(mark), synced);
     }
     match partition_row(s, p) {
-        PartitionRow::Took {
-            error,
-            index,
-            leader,
-            next: _,
-        } => store5(table, mark, error, index, leader, count, synced),
+        Ok(
+            Taken {
+                value: row,
+                next: _,
+            },
+        ) => {
+            store_row(
+                table,
+                mark,
+                [row.error, row.index, row.leader, count, synced],
+            )
+        }
         // never: it was read before its arrays were
-        PartitionRow::Refused(e) => mark,
+        Err(_) => mark,
     }
 }
 
@@ -90,50 +95,29 @@ fn partition_at(
     replicas: &mut [u64],
     synced: &mut [u64],
     marks: Marks,
-) -> Marked
+) -> Read<Marks>
     ensures { Runs (λ e. walk false partition_shape 3) s.now p (in_partitions partitions.old replicas.old synced.old marks) (partitions_is partitions.new replicas.new synced.new result) }
 {
-    match partition_row(s, p) {
-        PartitionRow::Took {
-            error: _,
-            index: _,
-            leader: _,
-            next: q,
-        } => match nodes_at(s, q, replicas, marks.replicas) {
-            Counted::Took {
-                count,
-                next: u,
-                mark: behind,
-            } => match nodes_at(s, u, synced, marks.synced) {
-                Counted::Took {
-                    count: synced_count,
-                    next,
-                    mark: last,
-                } => {
-                    let row = store_partition(
-                        s,
-                        p,
-                        partitions,
-                        marks.partitions,
-                        count,
-                        synced_count,
-                    );
-                    Marked::Took {
-                        next,
-                        marks: Marks {
-                            topics: marks.topics,
-                            partitions: row,
-                            replicas: behind,
-                            synced: last,
-                        },
-                    }
-                }
-                Counted::Refused(e) => Marked::Refused(e),
-            },
-            Counted::Refused(e) => Marked::Refused(e),
+    let row = partition_row(s, p)?;
+    let nodes = nodes_at(s, row.next, replicas, marks.replicas)?;
+    let in_sync = nodes_at(s, nodes.next, synced, marks.synced)?;
+    let after = store_partition(
+        s,
+        p,
+        partitions,
+        marks.partitions,
+        nodes.count,
+        in_sync.count,
+    );
+    Ok(Taken {
+        value: Marks {
+            topics: marks.topics,
+            partitions: after,
+            replicas: nodes.mark,
+            synced: in_sync.mark,
         },
-        PartitionRow::Refused(e) => Marked::Refused(e),
-    }
+        next: in_sync.next,
+    })
 }
 
 // `count` partitions from place p on.
@@ -145,21 +129,15 @@ pub(crate) fn partitions_in(
     replicas: &mut [u64],
     synced: &mut [u64],
     marks: Marks,
-) -> Marked
+) -> Read<Marks>
     ensures { Runs (λ e. loop count (walk false partition_shape 3)) s.now p (in_partitions partitions.old replicas.old synced.old marks) (partitions_is partitions.new replicas.new synced.new result) }
 {
-    let mut next = p;
-    let mut marks = marks;
-    let mut left = count;
-    while 0 < left {
-        left = left - 1;
-        match partition_at(s, next, partitions, replicas, synced, marks) {
-            Marked::Took { next: q, marks: m } => {
-                next = q;
-                marks = m;
-            }
-            Marked::Refused(e) => return Marked::Refused(e),
-        }
+    let mut all = Taken {
+        value: marks,
+        next: p,
+    };
+    for _ in 0..count {
+        all = partition_at(s, all.next, partitions, replicas, synced, all.value)?;
     }
-    Marked::Took { next, marks }
+    Ok(all)
 }

@@ -6,8 +6,9 @@ use Rattle.layout.specs.Rows.{Shape}
 use Rattle.layout.specs.Names.{fieldless, name_at, name_by, seek}
 use Rattle.layout.proofs.Tests.{lt-false, lt-true}
 use Rattle.body_reading.specs.Walk.{on}
-use Rattle.names.specs.Walks.{lies, named_by, of_sought}
-use Rattle.names.specs.declared.Sought.{Sought}
+use Rattle.std.specs.Prelude.{Ok, Err}
+use Rattle.names.specs.Walks.{Sought, lies, named_by, of_sought}
+use Rattle.names.specs.declared.Found.{Found}
 
 module _ (m : ℕ) (l : Shape) (k : List ℕ) (p : ℕ) (s : List ℕ) (e : Refusal) where
   by_tests : (t : Bool) → (fieldless e.number || ltb e.place p) ≡ t → cond t (naming m nowhere nowhere e) (name_by m e (seek e.place l nowhere 0 k p (drop p s))) ≡ name_at m l k p (drop p s) e
@@ -31,12 +32,12 @@ module _ (m : ℕ) (l : Shape) (k : List ℕ) (p : ℕ) (s : List ℕ) (e : Refu
 
     -- what the walk leaves of its counts has no part in the name
     pub by_walk : p ≤ e.place → (c : List ℕ) (o : Sought) → of_sought c o ≡ on (seek e.place l nowhere 0 k) s p → named_by m e (lies (of_sought [] o)) ≡ name_at m l k p (drop p s) e
-    by_walk g c (Sought.Found row f) d = in_fields g (lies (of_sought c (Sought.Found row f))) (ap lies d)
-    by_walk g c (Sought.Past n) d = in_fields g (lies (of_sought c (Sought.Past n))) (ap lies d)
+    by_walk g c (Err x) d = in_fields g (lies (of_sought c (Err x))) (ap lies d)
+    by_walk g c (Ok n) d = in_fields g (lies (of_sought c (Ok n))) (ap lies d)
 
 module _ (m : ℕ) (e r : Refusal) (x : Sought) where
-  pub by_found : (row f : ℕ) → x ≡ Sought.Found row f → r ≡ naming m row f e → r ≡ named_by m e (lies (of_sought [] x))
-  by_found row f d g = g ∙ sym (ap (λ (y : Sought). named_by m e (lies (of_sought [] y))) d)
+  pub by_found : (a : Found) → x ≡ Err a → r ≡ naming m a.row a.field e → r ≡ named_by m e (lies (of_sought [] x))
+  by_found a d g = g ∙ sym (ap (λ (y : Sought). named_by m e (lies (of_sought [] y))) d)
 
-  pub by_past : (n : ℕ) → x ≡ Sought.Past n → r ≡ naming m nowhere nowhere e → r ≡ named_by m e (lies (of_sought [] x))
+  pub by_past : (n : ℕ) → x ≡ Ok n → r ≡ naming m nowhere nowhere e → r ≡ named_by m e (lies (of_sought [] x))
   by_past n d g = g ∙ sym (ap (λ (y : Sought). named_by m e (lies (of_sought [] y))) d)

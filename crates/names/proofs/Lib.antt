@@ -1,5 +1,3 @@
--- the numbers that are of no field
-pub mod Fieldless
 -- where a field ends
 pub mod Ends
 -- the walk, step by step

@@ -16,8 +16,8 @@ use Rattle.layout.proofs.Strict.{Bytes, canon_int}
 use Rattle.layout.proofs.Cells.{extend, extend_shows, powers}
 use Rattle.layout.proofs.Link.{over}
 use Rattle.layout.proofs.Tests.{le-false, le-true}
-use Rattle.primitives.specs.Answers.{of_number, of_shown, unless_long}
-use Rattle.primitives.specs.declared.Number.{Number}
+use Rattle.std.specs.Prelude.{Ok, Err}
+use Rattle.primitives.specs.Answers.{Read, of_number, of_shown, unless_long}
 use Rattle.primitives.proofs.Cells.{bytes_of}
 
 -- 2 comes first
@@ -54,12 +54,12 @@ shows w s b = go (int (size w) 0 s) refl
         ap (λ (z : ℤ). ok z (m + 0)) (extend_shows w n (let p = powers w in omega (arith, p.power)))
     go (bad e) d = refl
 
-of_shown_lem : (n : Number) → of_shown n ≡ over (signed w64) (of_number n)
-of_shown_lem (Number.Took c m) = refl
-of_shown_lem (Number.Refused e) = refl
+of_shown_lem : (n : Read ℕ) → of_shown n ≡ over (signed w64) (of_number n)
+of_shown_lem (Ok t) = refl
+of_shown_lem (Err e) = refl
 
 -- a cell judged by the message's size, and then shown
-pub shown_sized : (s : List ℕ) (n m : Number) → of_number m ≡ unless_long s (of_number n) → of_shown m ≡ unless_long s (of_shown n)
+pub shown_sized : (s : List ℕ) (n m : Read ℕ) → of_number m ≡ unless_long s (of_number n) → of_shown m ≡ unless_long s (of_shown n)
 unfolding unless_long
 shown_sized s n m e = of_shown_lem m ∙ ap (over (signed w64)) e ∙ go (leb (length s) 1048576) ∙ ap (unless_long s) (sym (of_shown_lem n))
   where
@@ -68,5 +68,5 @@ shown_sized s n m e = of_shown_lem m ∙ ap (over (signed w64)) e ∙ go (leb (l
     go false = refl
 
 -- what a cell's step answers, shown, is what the call answers
-pub integer_is : (w : Width) (s : List ℕ) (n : Number) (o : Res ℤ) → ((i : ℕ) → Fits w8 (get_or s i 0)) → of_number n ≡ cell w 0 s → o ≡ unless_long s (of_shown n) → o ≡ alone (integer w) s
+pub integer_is : (w : Width) (s : List ℕ) (n : Read ℕ) (o : Res ℤ) → ((i : ℕ) → Fits w8 (get_or s i 0)) → of_number n ≡ cell w 0 s → o ≡ unless_long s (of_shown n) → o ≡ alone (integer w) s
 integer_is w s n o b e d = alone_sized (integer w) s (of_shown n) o d (of_shown_lem n ∙ ap (over (signed w64)) e ∙ shows w s (bytes_of s b))

@@ -16,10 +16,10 @@ use Rattle.layout.specs.Primitives.{Null, Width, bits, checked, compact, fixed, 
 use Rattle.layout.specs.Read.{read_blob, read_text}
 use Rattle.layout.specs.Utf8.{utf8, well_formed}
 use Rattle.layout.specs.Tables.{Span}
-use Rattle.primitives.specs.Answers.{of_number, of_refusal}
-use Rattle.primitives.specs.declared.Number.{Number}
-use Rattle.primitives.specs.Parts.{counted, data_behind, kept_behind, of_count, of_length, shown_behind, some_part, text_behind}
-use Rattle.primitives.specs.declared.Count.{Count}
+use Rattle.primitives.specs.Answers.{Read, of_number, of_refusal, taken}
+use Rattle.std.specs.Option.{unwrap_or}
+use Rattle.std.specs.Prelude.{Ok, Err, Some, None, Option as Maybe}
+use Rattle.primitives.specs.Parts.{counted, counted_as, data_behind, kept_behind, kept_or, of_count, of_length, shown_behind, shown_or, some_part, text_behind}
 use Rattle.layout.proofs.Steps.{checked_inv, raw_bad, then_bad, then_ok}
 use Rattle.layout.proofs.Tests.{lt-false, lt-true, one_more}
 use Rattle.layout.proofs.Local.{raw_ok}
@@ -57,7 +57,7 @@ module _ (len : Reader ℕ) (s : List ℕ) where
 -- ---- a number of the width w, looked at as not negative
 
 -- one case each
-module _ (n : Number) (half null v u : ℕ) (i : n ≡ Number.Took v u) where
+module _ (n : Read ℕ) (half null v u : ℕ) (i : n ≡ taken v u) where
   pub length_some : v < half → ok (v + 1) u ≡ of_length half null n
   length_some h = sym (ap (of_length half null) i ∙ rw (lt-true v half h))
 
@@ -78,13 +78,13 @@ module _ (w : Width) (m : Null) (s : List ℕ) where
       go false true e = sym (checked_null (length_of unsigned (fixed w m)) s 4 u (e ∙ ap (λ (k : ℕ). ok 0 k) (add-zero u)))
       go false false e = sym (checked_bad (length_of unsigned (fixed w m)) s true 4 _ e)
 
-  pub length_is : (n : Number) (o : Res ℕ) → of_number n ≡ int (size w) 0 s → o ≡ of_length (2 ^ (bits w - 1)) (2 ^ bits w - 1) n → o ≡ counted (fixed w m) 0 s
+  pub length_is : (n : Read ℕ) (o : Res ℕ) → of_number n ≡ int (size w) 0 s → o ≡ of_length (2 ^ (bits w - 1)) (2 ^ bits w - 1) n → o ≡ counted (fixed w m) 0 s
   unfolding counted length_of
   length_is n o e d = d ∙ go n e
     where
-      go : (n : Number) → of_number n ≡ int (size w) 0 s → of_length (2 ^ (bits w - 1)) (2 ^ bits w - 1) n ≡ counted (fixed w m) 0 s
-      go (Number.Took v u) e = judged_is v u (sym e)
-      go (Number.Refused c) e =
+      go : (n : Read ℕ) → of_number n ≡ int (size w) 0 s → of_length (2 ^ (bits w - 1)) (2 ^ bits w - 1) n ≡ counted (fixed w m) 0 s
+      go (Ok t) e = judged_is t.value t.next (sym e)
+      go (Err c) e =
           ap bad (int_refuses (size w) s _ (sym e))
           ∙ sym (checked_bad (length_of unsigned (fixed w m)) s true 4 _ (then_bad (int (size w)) _ 0 s _ (sym e)) ∙ ap (λ (c : Refusal). bad (because c.number 0)) (int_refuses (size w) s _ (sym e)))
 
@@ -156,20 +156,26 @@ module _ (t : Bool) (len : Reader ℕ) (F : ℕ → Reader Span) (s : List ℕ) 
 -- ---- and so what the field's reader gives: r is the length that was read, and k what it was
 
 module _ (t : Bool) (len : Reader ℕ) (s : List ℕ) (F : ℕ → Reader Span) (a : Bool) (e : ℕ) where
-  shown_of_lem : (r : Count) → of_count r ≡ checked true 4 len 0 s → shown_behind (behind t F) a e s r ≡ single t (sized false a e len F) 0 s
-  shown_of_lem (Count.Took n u) h = sym (plain_some t len F s a e n u (checked_inv true 4 len 0 s (n + 1) u (sym h)))
-  shown_of_lem (Count.Null u) h = plain_null t len F s a e u (checked_inv true 4 len 0 s 0 u (sym h))
-  shown_of_lem (Count.Refused c) h = let b = length_bad len s 4 (of_refusal c) (sym h) in ap bad b.2 ∙ sym (plain_bad t len F s a e b.0 b.1)
+  shown_or_lem : (c : Maybe ℕ) (u : ℕ) → ok (counted_as c) u ≡ checked true 4 len 0 s → shown_or (behind t F) a e s u c ≡ single t (sized false a e len F) 0 s
+  shown_or_lem (Some n) u h = sym (plain_some t len F s a e n u (checked_inv true 4 len 0 s (n + 1) u (sym h)))
+  shown_or_lem None u h = plain_null t len F s a e u (checked_inv true 4 len 0 s 0 u (sym h))
 
-  pub shown_is : (r : Count) → of_count r ≡ checked true 4 len 0 s → (k : Count) → r ≡ k → shown_behind (behind t F) a e s k ≡ single t (sized false a e len F) 0 s
+  shown_of_lem : (r : Read (Maybe ℕ)) → of_count r ≡ checked true 4 len 0 s → shown_behind (behind t F) a e s r ≡ single t (sized false a e len F) 0 s
+  shown_of_lem (Ok r) h = shown_or_lem r.value r.next h
+  shown_of_lem (Err c) h = let b = length_bad len s 4 (of_refusal c) (sym h) in ap bad b.2 ∙ sym (plain_bad t len F s a e b.0 b.1)
+
+  pub shown_is : (r : Read (Maybe ℕ)) → of_count r ≡ checked true 4 len 0 s → (k : Read (Maybe ℕ)) → r ≡ k → shown_behind (behind t F) a e s k ≡ single t (sized false a e len F) 0 s
   shown_is r h k i = ap (shown_behind (behind t F) a e s) (sym i) ∙ shown_of_lem r h
 
-  kept_of : (r : Count) → of_count r ≡ checked true 4 len 0 s → kept_behind (behind t F) s r ≡ single t (sized true a e len F) 0 s
-  kept_of (Count.Took n u) h = sym (kept_some t len F s a e n u (checked_inv true 4 len 0 s (n + 1) u (sym h)))
-  kept_of (Count.Null u) h = sym (kept_null t len F s a e u (checked_inv true 4 len 0 s 0 u (sym h)))
-  kept_of (Count.Refused c) h = let b = length_bad len s 4 (of_refusal c) (sym h) in ap bad b.2 ∙ sym (kept_bad t len F s a e b.0 b.1)
+  kept_or_lem : (c : Maybe ℕ) (u : ℕ) → ok (counted_as c) u ≡ checked true 4 len 0 s → kept_or (behind t F) s u c ≡ single t (sized true a e len F) 0 s
+  kept_or_lem (Some n) u h = sym (kept_some t len F s a e n u (checked_inv true 4 len 0 s (n + 1) u (sym h)))
+  kept_or_lem None u h = sym (kept_null t len F s a e u (checked_inv true 4 len 0 s 0 u (sym h)))
 
-  pub kept_is : (r : Count) → of_count r ≡ checked true 4 len 0 s → (k : Count) → r ≡ k → kept_behind (behind t F) s k ≡ single t (sized true a e len F) 0 s
+  kept_of : (r : Read (Maybe ℕ)) → of_count r ≡ checked true 4 len 0 s → kept_behind (behind t F) s r ≡ single t (sized true a e len F) 0 s
+  kept_of (Ok r) h = kept_or_lem r.value r.next h
+  kept_of (Err c) h = let b = length_bad len s 4 (of_refusal c) (sym h) in ap bad b.2 ∙ sym (kept_bad t len F s a e b.0 b.1)
+
+  pub kept_is : (r : Read (Maybe ℕ)) → of_count r ≡ checked true 4 len 0 s → (k : Read (Maybe ℕ)) → r ≡ k → kept_behind (behind t F) s k ≡ single t (sized true a e len F) 0 s
   kept_is r h k i = ap (kept_behind (behind t F) s) (sym i) ∙ kept_of r h
 
 -- ---- the contents
@@ -239,3 +245,8 @@ rest_in s n = take_all (length s - n) (drop n s) (omega (arith, length-drop n s)
 
 pub rest_out : (s : List ℕ) (n : ℕ) → length s ≤ n → take (length s - length s) (drop (length s) s) ≡ drop n s
 rest_out s n h = rest_in s (length s) ∙ drop_of_length-le s {i = length s} (omega arith) ∙ sym (drop_of_length-le s {i = n} h)
+
+-- a null that is shown as empty
+pub shown_empty : (b : ℕ → ℕ → List ℕ → Res Span) (e : ℕ) (s : List ℕ) (n : ℕ) (c : Maybe ℕ) (k : ℕ) → k ≡ unwrap_or c 0 → b n k s ≡ shown_or b true e s n c
+shown_empty b e s n None k h = ap (λ (j : ℕ). b n j s) h
+shown_empty b e s n (Some j) k h = ap (λ (j : ℕ). b n j s) h

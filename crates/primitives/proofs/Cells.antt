@@ -2,13 +2,13 @@
 use mathlib.Core.Bool.{Bool, cond, false, true}
 use mathlib.Core.List.{List, [], ◌++◌, ◌∷◌}
 use mathlib.Core.Path.{◌∙◌, ◌≡◌, ap, refl, subst, sym}
-use Prim.Native.Nat.{◌*◌, ◌+◌, ◌-◌, ◌/◌, ◌<◌, ◌^◌, ◌≤◌, suc, ℕ}
+use Prim.Native.Nat.{◌*◌, ◌+◌, ◌-◌, ◌/◌, ◌<◌, ◌^◌, ◌≤◌, suc, zero, ℕ}
 use native.Mathlib.Decide.{dec_le}
-use native.Mathlib.Nat.{add-mul, add-zero, div-eq_of_lt, div-eq_of_lt-le, mul_assoc, mul_comm, one-mul, pow-suc, zero-mul}
+use native.Mathlib.Nat.{add-zero, div-eq_of_lt, div-eq_of_lt-le, one-mul, zero-mul}
 use native.Mathlib.Omega.{arith}
 use lib.Dec.{ltb}
-use lib.ListN.{drop, get_or, length, length-drop, take}
-use lib.Seq.{length-take-le, take-add}
+use lib.ListN.{get_or, length, take}
+use lib.Seq.{take-suc}
 use mir.Syntax as Mir
 use mir.Val.{Fits}
 use Rattle.layout.specs.Reading.{Refusal, Res, bad, because, give, ok}
@@ -17,42 +17,30 @@ use Rattle.layout.proofs.Strict.{Bytes, canon_int}
 use Rattle.layout.proofs.Cells.{above, extend, extend_high, extend_low, powers}
 use Rattle.layout.proofs.Tests.{of_ge, of_lt}
 use Rattle.layout.proofs.Steps.{int_bad, int_ok, then_bad, then_ok}
-use Rattle.primitives.specs.Answers.{Below, of_extended, of_number}
-use Rattle.primitives.specs.declared.Number.{Number}
+use Rattle.primitives.specs.Answers.{Below, Read, of_extended, of_number, taken}
+use Rattle.std.specs.Prelude.{Ok, Err}
 
--- the first bytes, by their index
-pub be_2 : (s : List ℕ) → 2 ≤ length s → be 0 (take 2 s) ≡ get_or s 0 0 * 256 + get_or s 1 0
-be_2 [] h = absurd (omega arith)
-be_2 (a ∷ []) h = absurd (omega arith)
-be_2 (a ∷ b ∷ s) h = omega arith
+-- a byte more at the end
+be_append : (a : ℕ) (s : List ℕ) (b : ℕ) → be a (s ++ (b ∷ [])) ≡ be a s * 256 + b
+be_append a [] b = refl
+be_append a (c ∷ s) b = be_append (a * 256 + c) s b
 
-pub be_4 : (s : List ℕ) → 4 ≤ length s → be 0 (take 4 s) ≡ ((get_or s 0 0 * 256 + get_or s 1 0) * 256 + get_or s 2 0) * 256 + get_or s 3 0
-be_4 [] h = absurd (omega arith)
-be_4 (a ∷ []) h = absurd (omega arith)
-be_4 (a ∷ b ∷ []) h = absurd (omega arith)
-be_4 (a ∷ b ∷ c ∷ []) h = absurd (omega arith)
-be_4 (a ∷ b ∷ c ∷ d ∷ s) h = omega arith
+pub be_next : (s : List ℕ) (i v : ℕ) → i < length s → v ≡ be 0 (take i s) → (b : ℕ) → b ≡ get_or s i 0 → v * 256 + b ≡ be 0 (take (i + 1) s)
+be_next s i v h e b g =
+    let n : suc i ≡ i + 1 = omega arith in
+    (λ t. e t * 256 + g t) ∙ sym (be_append 0 (take i s) (get_or s i 0)) ∙ ap (be 0) (sym (take-suc s i 0 h) ∙ ap (λ (k : ℕ). take k s) n)
 
-be_append : (a : ℕ) (s t : List ℕ) → be a (s ++ t) ≡ be (be a s) t
-be_append a [] t = refl
-be_append a (b ∷ s) t = be_append (a * 256 + b) s t
-
-be_shift : (a : ℕ) (s : List ℕ) → be a s ≡ a * 256 ^ length s + be 0 s
-be_shift a [] = omega arith
-be_shift a (b ∷ s) =
-    let p = be_shift (a * 256 + b) s in
-    let q = be_shift (0 * 256 + b) s in
-    let d : (a * 256 + b) * 256 ^ length s ≡ a * 256 * 256 ^ length s + b * 256 ^ length s = add-mul (a * 256) b (256 ^ length s) in
-    let f : a * 256 * 256 ^ length s ≡ a * (256 ^ length s * 256) = mul_assoc a 256 (256 ^ length s) ∙ ap (λ (z : ℕ). a * z) (mul_comm 256 (256 ^ length s)) in
-    let g : a * 256 ^ length (b ∷ s) ≡ a * (256 ^ length s * 256) = ap (λ (z : ℕ). a * z) (pow-suc 256 (length s)) in
-    let k : (0 * 256 + b) * 256 ^ length s ≡ b * 256 ^ length s = ap (λ (z : ℕ). z * 256 ^ length s) (omega arith) in
-    omega arith
-
--- eight bytes are four and four
-pub be_8 : (s : List ℕ) → 8 ≤ length s → be 0 (take 8 s) ≡ be 0 (take 4 s) * 4294967296 + be 0 (take 4 (drop 4 s))
-be_8 s h =
-    let l : length (take 4 (drop 4 s)) ≡ 4 = length-take-le 4 (drop 4 s) (omega (arith, length-drop 4 s)) in
-    ap (be 0) (take-add 4 4 s) ∙ be_append 0 (take 4 s) (take 4 (drop 4 s)) ∙ be_shift (be 0 (take 4 s)) (take 4 (drop 4 s)) ∙ ap (λ (k : ℕ). be 0 (take 4 s) * 256 ^ k + be 0 (take 4 (drop 4 s))) l
+-- a byte more has room, up to eight
+pub room_for_byte : (i v b : ℕ) → i < 8 → v < 256 ^ i → b < 256 → (v * 256 < 2 ^ 64) × ((v * 256 + b < 2 ^ 64) × (v * 256 + b < 256 ^ (i + 1)))
+room_for_byte zero v b h l k = (omega arith, (omega arith, omega arith))
+room_for_byte (suc zero) v b h l k = (omega arith, (omega arith, omega arith))
+room_for_byte (suc (suc zero)) v b h l k = (omega arith, (omega arith, omega arith))
+room_for_byte (suc (suc (suc zero))) v b h l k = (omega arith, (omega arith, omega arith))
+room_for_byte (suc (suc (suc (suc zero)))) v b h l k = (omega arith, (omega arith, omega arith))
+room_for_byte (suc (suc (suc (suc (suc zero))))) v b h l k = (omega arith, (omega arith, omega arith))
+room_for_byte (suc (suc (suc (suc (suc (suc zero)))))) v b h l k = (omega arith, (omega arith, omega arith))
+room_for_byte (suc (suc (suc (suc (suc (suc (suc zero))))))) v b h l k = (omega arith, (omega arith, omega arith))
+room_for_byte (suc (suc (suc (suc (suc (suc (suc (suc i)))))))) v b h l k = absurd (omega arith)
 
 -- ---- k bytes, not negative
 
@@ -107,7 +95,7 @@ module _ (v half fill : ℕ) (h : v < 2 * half) where
       go false e = let q = quotient_high (of_ge _ _ e) in (omega arith, omega arith)
 
 -- the cell of the number, and that it is below m
-module _ (n : Number) (v u : ℕ) (i : n ≡ Number.Took v u) where
+module _ (n : Read ℕ) (v u : ℕ) (i : n ≡ taken v u) where
   pub extended_is : (half fill c : ℕ) → c ≡ cond (ltb v half) v (v + fill) → ok c u ≡ of_extended half fill n
   extended_is half fill c e = ap (λ (x : ℕ). ok x u) e ∙ sym (ap (of_extended half fill) i)
 
@@ -115,43 +103,43 @@ module _ (n : Number) (v u : ℕ) (i : n ≡ Number.Took v u) where
   extended_below m b = subst (Below m) i b
 
 module _ (w : Width) (s : List ℕ) where
-  -- too few bytes
-  pub cell_short : (e : Refusal) → e ≡ because 3 0 → length s < size w → bad e ≡ cell w 0 s
-  unfolding cell
-  cell_short e i h = ap bad i ∙ sym (then_bad (int (size w)) _ 0 s (because 3 0) (int_bad (size w) 0 s h))
-
   pub cell_is : (n : ℕ) → size w ≤ length s → n ≡ be 0 (take (size w) s) → ok (extend w n) (size w) ≡ cell w 0 s
   unfolding cell give
   cell_is n h e =
       sym (then_ok (int (size w)) _ 0 s (be 0 (take (size w) s)) (size w) (int_ok (size w) 0 s h) ∙ (λ i. ok (extend w (sym e i)) (add-zero (size w) i)))
 
   -- a number below 2^bits, and its cell
-  module _ (s-bytes : (i : ℕ) → Fits Mir.w8 (get_or s i 0)) (n : Number) (e : of_number n ≡ int (size w) 0 s) where
+  module _ (s-bytes : (i : ℕ) → Fits Mir.w8 (get_or s i 0)) (n : Read ℕ) (e : of_number n ≡ int (size w) 0 s) where
     pub int_below : (m : ℕ) → 2 ^ bits w ≤ m → Below m n
     int_below m l = go n e
       where
-        go : (n : Number) → of_number n ≡ int (size w) 0 s → Below m n
-        go (Number.Took v u) e = let p = powers w in let h : v < 256 ^ size w = ((canon_int (size w)).law 0 s v u (bytes_of s s-bytes) (sym e)).fact in omega (arith, p.power)
-        go (Number.Refused c) e = tt
+        go : (n : Read ℕ) → of_number n ≡ int (size w) 0 s → Below m n
+        go (Ok t) e = let p = powers w in let h : t.value < 256 ^ size w = ((canon_int (size w)).law 0 s t.value t.next (bytes_of s s-bytes) (sym e)).fact in omega (arith, p.power)
+        go (Err c) e = tt
 
     pub cell_extended : (o : Res ℕ) → o ≡ of_extended (2 ^ (bits w - 1)) (above w * 256 ^ size w) n → o ≡ cell w 0 s
     unfolding cell give
     cell_extended o d = d ∙ go n e (int_below (2 ^ bits w) (omega arith))
       where
-        go : (n : Number) → of_number n ≡ int (size w) 0 s → Below (2 ^ bits w) n → of_extended (2 ^ (bits w - 1)) (above w * 256 ^ size w) n ≡ cell w 0 s
-        go (Number.Took v u) e h = sym (then_ok (int (size w)) _ 0 s v u (sym e) ∙ (λ i. ok (sym (extends w v h) i) (add-zero u i)))
-        go (Number.Refused c) e h = sym (then_bad (int (size w)) _ 0 s _ (sym e))
+        go : (n : Read ℕ) → of_number n ≡ int (size w) 0 s → Below (2 ^ bits w) n → of_extended (2 ^ (bits w - 1)) (above w * 256 ^ size w) n ≡ cell w 0 s
+        go (Ok t) e h = sym (then_ok (int (size w)) _ 0 s t.value t.next (sym e) ∙ (λ i. ok (sym (extends w t.value h) i) (add-zero t.next i)))
+        go (Err c) e h = sym (then_bad (int (size w)) _ 0 s _ (sym e))
 
 -- all 64 bits are the cell
-pub cell_whole : (s : List ℕ) (n : ℕ) → 8 ≤ length s → n ≡ be 0 (take 8 s) → n < 2 ^ 64 → ok n 8 ≡ cell w64 0 s
-cell_whole s n h e g = ap (λ (c : ℕ). ok c 8) (sym (whole n g)) ∙ cell_is w64 s n h e
+whole : (n : ℕ) → n < 2 ^ 64 → extend w64 n ≡ n
+whole n g = go (ltb n (2 ^ 63)) refl
   where
-    whole : (n : ℕ) → n < 2 ^ 64 → extend w64 n ≡ n
-    whole n g = go (ltb n (2 ^ 63)) refl
-      where
-        go : (b : Bool) → ltb n (2 ^ 63) ≡ b → extend w64 n ≡ n
-        go true i = extend_low w64 n (of_lt _ _ i)
-        go false i = extend_high w64 n (of_ge _ _ i) g ∙ add-zero n
+    go : (b : Bool) → ltb n (2 ^ 63) ≡ b → extend w64 n ≡ n
+    go true i = extend_low w64 n (of_lt _ _ i)
+    go false i = extend_high w64 n (of_ge _ _ i) g ∙ add-zero n
+
+pub cell_64 : (s : List ℕ) → ((i : ℕ) → Fits Mir.w8 (get_or s i 0)) → (n : Read ℕ) → of_number n ≡ int 8 0 s → of_number n ≡ cell w64 0 s
+unfolding cell give
+cell_64 s b n e = go n e (int_below w64 s b n e (2 ^ 64) (omega arith))
+  where
+    go : (n : Read ℕ) → of_number n ≡ int 8 0 s → Below (2 ^ 64) n → of_number n ≡ cell w64 0 s
+    go (Ok t) e h = sym (then_ok (int 8) _ 0 s t.value t.next (sym e) ∙ (λ i. ok (whole t.value h i) (add-zero t.next i)))
+    go (Err c) e h = sym (then_bad (int 8) _ 0 s _ (sym e))
 
 pub be_1 : (s : List ℕ) (n : ℕ) → 1 ≤ length s → n ≡ get_or s 0 0 → n ≡ be 0 (take 1 s)
 be_1 [] n h e = absurd (omega arith)

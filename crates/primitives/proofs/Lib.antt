@@ -12,3 +12,5 @@ pub mod Alone
 -- a promise determines the reply: numbers, and counts, data and texts
 pub mod Unique
 pub mod UniqueParts
+-- what a `?` hands up
+pub mod Up

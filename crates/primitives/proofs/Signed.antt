@@ -12,8 +12,7 @@ use Rattle.layout.specs.Reading.{ok}
 use Rattle.layout.specs.Primitives.{signed}
 use Rattle.layout.specs.Primitives as Kafka
 use Rattle.layout.proofs.Cells.{signed_is}
-use Rattle.primitives.specs.Answers.{of_shown}
-use Rattle.primitives.specs.declared.Number.{Number}
+use Rattle.primitives.specs.Answers.{Read, of_shown, taken}
 
 minus_pos : (m : ℕ) → negsuc 0 -ℤ pos m ≡ negsuc m
 minus_pos zero = refl
@@ -35,5 +34,5 @@ pub back : (c : ℕ) (z : ℤ) → c < 2 ^ 64 → z ≡ signed Kafka.w64 c → t
 back c z h e = ap (λ (y : ℤ). to_z w64 (of_z w64 y)) (e ∙ signed_is Kafka.w64 c) ∙ to_z-of_z {w = w64} (sfits_to_z {w = w64} (record { fits = h })) ∙ sym (signed_is Kafka.w64 c)
 
 -- and is what the cell shows in an answer
-pub shown_took : (n : Number) (c k : ℕ) (z : ℤ) → n ≡ Number.Took c k → z ≡ signed Kafka.w64 c → c < 2 ^ 64 → ok (to_z w64 (of_z w64 z)) k ≡ of_shown n
+pub shown_took : (n : Read ℕ) (c k : ℕ) (z : ℤ) → n ≡ taken c k → z ≡ signed Kafka.w64 c → c < 2 ^ 64 → ok (to_z w64 (of_z w64 z)) k ≡ of_shown n
 shown_took n c k z i e h = ap (λ (y : ℤ). ok y k) (back c z h e) ∙ sym (ap of_shown i)

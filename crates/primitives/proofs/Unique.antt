@@ -3,12 +3,10 @@ use mathlib.Core.Bool.{Bool}
 use mathlib.Core.Path.{◌∙◌, ◌≡◌, ap, refl, sym}
 use Prim.Native.Nat.{ℕ}
 use lib.IntN.{ℤ}
+use Rattle.std.specs.Prelude.{Ok, Err}
 use Rattle.layout.specs.Reading.{Res, bad, ok}
 use Rattle.layout.specs.Reading as Reading
-use Rattle.primitives.specs.Answers.{of_flag, of_integer, of_number}
-use Rattle.primitives.specs.declared.Flag.{Flag}
-use Rattle.primitives.specs.declared.Integer.{Integer}
-use Rattle.primitives.specs.declared.Number.{Number}
+use Rattle.primitives.specs.Answers.{Read, of_flag, of_integer, of_number, of_read, taken}
 use Rattle.primitives.specs.declared.Refusal.{Refusal}
 
 -- any two replies that a promise `of r ≡ o` allows are equal, where `back` gives the reply again
@@ -18,35 +16,24 @@ unique of back left o r s h k = sym (left r) ∙ ap back (h ∙ sym k) ∙ left 
 abbrev pub refusal_of : Reading.Refusal → Refusal
 refusal_of e = record { number = e.number; place = e.place; need = e.need }
 
-abbrev number_of : Res ℕ → Number
-number_of (ok v n) = Number.Took v n
-number_of (bad e) = Number.Refused (refusal_of e)
+-- what is read is shown by f, and `back` gives it again
+module _ {A B : Type 0} (f : A → B) (back : B → A) where
+  abbrev pub read_back : Res B → Read A
+  read_back (ok v n) = taken (back v) n
+  read_back (bad e) = Err (refusal_of e)
 
-number_back_lem : (r : Number) → number_of (of_number r) ≡ r
-number_back_lem (Number.Took v n) = refl
-number_back_lem (Number.Refused e) = refl
+  pub same_reads : ((v : A) → back (f v) ≡ v) → (o : Res B) (r s : Read A) → of_read f r ≡ o → of_read f s ≡ o → r ≡ s
+  same_reads left = unique (of_read f) read_back same
+    where
+      same : (r : Read A) → read_back (of_read f r) ≡ r
+      same (Ok t) = ap (λ (v : A). taken v t.next) (left t.value)
+      same (Err e) = refl
 
-pub number_unique : (o : Res ℕ) (r s : Number) → of_number r ≡ o → of_number s ≡ o → r ≡ s
-number_unique = unique of_number number_of number_back_lem
+pub number_unique : (o : Res ℕ) (r s : Read ℕ) → of_number r ≡ o → of_number s ≡ o → r ≡ s
+number_unique = same_reads (λ v. v) (λ v. v) (λ v. refl)
 
-abbrev integer_of : Res ℤ → Integer
-integer_of (ok v n) = Integer.Took v n
-integer_of (bad e) = Integer.Refused (refusal_of e)
+pub integer_unique : (o : Res ℤ) (r s : Read ℤ) → of_integer r ≡ o → of_integer s ≡ o → r ≡ s
+integer_unique = same_reads (λ v. v) (λ v. v) (λ v. refl)
 
-integer_back : (r : Integer) → integer_of (of_integer r) ≡ r
-integer_back (Integer.Took v n) = refl
-integer_back (Integer.Refused e) = refl
-
-pub integer_unique : (o : Res ℤ) (r s : Integer) → of_integer r ≡ o → of_integer s ≡ o → r ≡ s
-integer_unique = unique of_integer integer_of integer_back
-
-abbrev flag_of : Res Bool → Flag
-flag_of (ok v n) = Flag.Took v n
-flag_of (bad e) = Flag.Refused (refusal_of e)
-
-flag_back : (r : Flag) → flag_of (of_flag r) ≡ r
-flag_back (Flag.Took v n) = refl
-flag_back (Flag.Refused e) = refl
-
-pub flag_unique : (o : Res Bool) (r s : Flag) → of_flag r ≡ o → of_flag s ≡ o → r ≡ s
-flag_unique = unique of_flag flag_of flag_back
+pub flag_unique : (o : Res Bool) (r s : Read Bool) → of_flag r ≡ o → of_flag s ≡ o → r ≡ s
+flag_unique = same_reads (λ v. v) (λ v. v) (λ v. refl)

@@ -5,53 +5,41 @@ use mathlib.Core.Path.{◌≡◌, ap, refl}
 use Prim.Native.Nat.{◌+◌, ◌-◌, ℕ}
 use native.Mathlib.Omega.{arith}
 use lib.Dec.{eqb}
-use Rattle.layout.specs.Reading.{Res, bad, ok}
+use Rattle.layout.specs.Reading.{Res}
 use Rattle.layout.specs.Tables.{Span}
 use Rattle.layout.proofs.Tests.{one_more}
-use Rattle.primitives.specs.Parts.{of_count, of_nullable, of_part}
-use Rattle.primitives.specs.declared.Count.{Count}
+use Rattle.std.specs.Prelude.{Some, None, Option as Maybe}
+use Rattle.primitives.specs.Answers.{Read}
+use Rattle.primitives.specs.Parts.{counted_as, of_count, of_field, of_nullable, of_part, of_span}
 use Rattle.primitives.specs.declared.Field.{Field}
-use Rattle.primitives.specs.declared.Nullable.{Nullable}
-use Rattle.primitives.specs.declared.Part.{Part}
-use Rattle.primitives.proofs.Unique.{refusal_of, unique}
+use Rattle.primitives.specs.declared.Span as Part
+use Rattle.primitives.proofs.Unique.{same_reads}
 
-abbrev count_of : Res ℕ → Count
-count_of (ok k n) = cond (eqb k 0) (Count.Null n) (Count.Took (k - 1) n)
-count_of (bad e) = Count.Refused (refusal_of e)
+abbrev pub count_of : ℕ → Maybe ℕ
+count_of k = cond (eqb k 0) None (Some (k - 1))
 
-count_back : (r : Count) → count_of (of_count r) ≡ r
-count_back (Count.Null n) = refl
-count_back (Count.Took k n) = let m : k + 1 - 1 ≡ k = omega arith in rw (one_more k) (ap (λ (j : ℕ). Count.Took j n) m)
-count_back (Count.Refused e) = refl
+count_back : (c : Maybe ℕ) → count_of (counted_as c) ≡ c
+count_back None = refl
+count_back (Some k) = let m : k + 1 - 1 ≡ k = omega arith in rw (one_more k) (ap (λ (j : ℕ). Some j) m)
 
-pub count_unique : (o : Res ℕ) (r s : Count) → of_count r ≡ o → of_count s ≡ o → r ≡ s
-count_unique = unique of_count count_of count_back
+pub count_unique : (o : Res ℕ) (r s : Read (Maybe ℕ)) → of_count r ≡ o → of_count s ≡ o → r ≡ s
+count_unique = same_reads counted_as count_of count_back
 
-abbrev part_of : Res Span → Part
-part_of (ok x n) = Part.Took x.0 x.1 n
-part_of (bad e) = Part.Refused (refusal_of e)
+abbrev pub span_of : Span → Part.Span
+span_of x = record { start = x.0; len = x.1 }
 
-part_back : (r : Part) → part_of (of_part r) ≡ r
-part_back (Part.Took a k n) = refl
-part_back (Part.Refused e) = refl
+pub part_unique : (o : Res Span) (r s : Read Part.Span) → of_part r ≡ o → of_part s ≡ o → r ≡ s
+part_unique = same_reads of_span span_of (λ v. refl)
 
-pub part_unique : (o : Res Span) (r s : Part) → of_part r ≡ o → of_part s ≡ o → r ≡ s
-part_unique = unique of_part part_of part_back
-
-abbrev field_of : Option (Option Span) → Field
+abbrev pub field_of : Option (Option Span) → Field
 field_of none = Field.Absent
 field_of (some none) = Field.Null
-field_of (some (some x)) = Field.Present x.0 x.1
+field_of (some (some x)) = Field.Present (span_of x)
 
-abbrev nullable_of : Res (Option (Option Span)) → Nullable
-nullable_of (ok x n) = Nullable.Took (field_of x) n
-nullable_of (bad e) = Nullable.Refused (refusal_of e)
+pub field_back : (f : Field) → field_of (of_field f) ≡ f
+field_back Field.Absent = refl
+field_back Field.Null = refl
+field_back (Field.Present x) = refl
 
-nullable_back : (r : Nullable) → nullable_of (of_nullable r) ≡ r
-nullable_back (Nullable.Took Field.Absent n) = refl
-nullable_back (Nullable.Took Field.Null n) = refl
-nullable_back (Nullable.Took (Field.Present a k) n) = refl
-nullable_back (Nullable.Refused e) = refl
-
-pub nullable_unique : (o : Res (Option (Option Span))) (r s : Nullable) → of_nullable r ≡ o → of_nullable s ≡ o → r ≡ s
-nullable_unique = unique of_nullable nullable_of nullable_back
+pub nullable_unique : (o : Res (Option (Option Span))) (r s : Read Field) → of_nullable r ≡ o → of_nullable s ≡ o → r ≡ s
+nullable_unique = same_reads of_field field_of field_back

@@ -12,8 +12,8 @@ use lib.IntN.{negsuc, pos, ℤ}
 use borrow.Author.Tests.{eq-eqb, ne_eqb}
 use Rattle.layout.specs.Reading.{Reader, Refusal, Res, bad, because, fail, give, more, ok, pick, placed, single, then}
 use Rattle.layout.specs.Primitives.{be, cell_of, groups, int, signed, unsigned, unzigzag, varint, varlong, w64}
-use Rattle.primitives.specs.Answers.{of_carried, of_narrow, of_number, tenth_byte}
-use Rattle.primitives.specs.declared.Number.{Number}
+use Rattle.primitives.specs.Answers.{Read, of_carried, of_narrow, of_number, taken, tenth_byte}
+use Rattle.std.specs.Prelude.{Ok, Err}
 use Rattle.layout.proofs.Link.{more_more, over}
 use Rattle.layout.proofs.Steps.{int_bad, int_ok, primitive_place, then_bad, then_ok}
 use Rattle.layout.proofs.Tests.{lt-false, lt-true, of_ge, of_lt}
@@ -143,20 +143,20 @@ cell_shows n h = go (eqb (n % 2) 0)
     go false = shows_neg (n / 2) (omega arith)
 
 -- the cell of n's number shows it
-pub carried_took : (m : Number) (n k c : ℕ) → m ≡ Number.Took n k → n < 2 ^ 64 → c ≡ cell_of (unzigzag n) → ok (signed w64 c) k ≡ of_carried m
+pub carried_took : (m : Read ℕ) (n k c : ℕ) → m ≡ taken n k → n < 2 ^ 64 → c ≡ cell_of (unzigzag n) → ok (signed w64 c) k ≡ of_carried m
 carried_took m n k c i h e = ap (λ (z : ℤ). ok z k) (ap (signed w64) e ∙ cell_shows n h) ∙ sym (ap of_carried i)
 
 -- 32 bits, and what is outside
-module _ (m : Number) (n k : ℕ) (i : m ≡ Number.Took n k) where
+module _ (m : Read ℕ) (n k : ℕ) (i : m ≡ taken n k) where
   pub narrow_low : n ≤ 4294967295 → ok n k ≡ of_narrow m
   narrow_low h = sym (ap of_narrow i ∙ rw (lt-true n 4294967296 (omega arith)))
 
   pub narrow_high : (e : Refusal) → 4294967295 < n → e ≡ because 11 0 → bad e ≡ of_narrow m
   narrow_high e h d = ap bad d ∙ sym (ap of_narrow i ∙ rw (lt-false n 4294967296 h))
 
-of_carried_lem : (n : Number) → of_carried n ≡ over unzigzag (of_number n)
-of_carried_lem (Number.Took v k) = refl
-of_carried_lem (Number.Refused e) = refl
+of_carried_lem : (n : Read ℕ) → of_carried n ≡ over unzigzag (of_number n)
+of_carried_lem (Ok t) = refl
+of_carried_lem (Err e) = refl
 
 module _ (s : List ℕ) where
   pub placed_0 : (e : Refusal) → unsigned 0 s ≡ bad e → e ≡ because e.number 0
@@ -164,10 +164,10 @@ module _ (s : List ℕ) where
   placed_0 e h = primitive_place (groups 9 1 0) 0 s e h
 
   -- the number carried by what was read
-  pub varlong_is : (n : Number) → of_number n ≡ unsigned 0 s → of_carried n ≡ varlong 0 s
+  pub varlong_is : (n : Read ℕ) → of_number n ≡ unsigned 0 s → of_carried n ≡ varlong 0 s
   unfolding varlong give
-  varlong_is (Number.Took v k) e = sym (then_ok unsigned _ 0 s v k (sym e) ∙ ap (λ (m : ℕ). ok (unzigzag v) m) (add-zero k))
-  varlong_is (Number.Refused c) e = sym (then_bad unsigned _ 0 s _ (sym e))
+  varlong_is (Ok t) e = sym (then_ok unsigned _ 0 s t.value t.next (sym e) ∙ ap (λ (m : ℕ). ok (unzigzag t.value) m) (add-zero t.next))
+  varlong_is (Err c) e = sym (then_bad unsigned _ 0 s _ (sym e))
 
   -- the same, narrowed first
   narrowed : (v k : ℕ) → ok v k ≡ unsigned 0 s → over unzigzag (cond (ltb v (2 ^ 32)) (ok v k) (bad (because 11 0))) ≡ varint 0 s
@@ -178,10 +178,10 @@ module _ (s : List ℕ) where
       go true = ap (λ (m : ℕ). ok (unzigzag v) m) (sym (add-zero k))
       go false = refl
 
-  pub varint_is : (n m : Number) → of_number n ≡ unsigned 0 s → of_number m ≡ of_narrow n → of_carried m ≡ varint 0 s
+  pub varint_is : (n m : Read ℕ) → of_number n ≡ unsigned 0 s → of_number m ≡ of_narrow n → of_carried m ≡ varint 0 s
   unfolding varint single
   varint_is n m e d = of_carried_lem m ∙ ap (over unzigzag) d ∙ go n e
     where
-      go : (n : Number) → of_number n ≡ unsigned 0 s → over unzigzag (of_narrow n) ≡ varint 0 s
-      go (Number.Took v k) e = narrowed v k e
-      go (Number.Refused c) e = ap bad (placed_0 _ (sym e)) ∙ sym (ap (placed false 0) (then_bad unsigned _ 0 s _ (sym e)))
+      go : (n : Read ℕ) → of_number n ≡ unsigned 0 s → over unzigzag (of_narrow n) ≡ varint 0 s
+      go (Ok t) e = narrowed t.value t.next e
+      go (Err c) e = ap bad (placed_0 _ (sym e)) ∙ sym (ap (placed false 0) (then_bad unsigned _ 0 s _ (sym e)))

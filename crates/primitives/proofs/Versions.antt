@@ -1,8 +1,9 @@
 -- What calls are given: a version that is not negative is its own number, and one that a message does not have is refused with 1; and a Boolean as a number, of which 0 is false. What holds of all versions is shown one by one, by `up_to` and `between`.
+use Rattle.std.specs.Prelude.{not, ◌==◌}
 use mathlib.Core.Bool.{Bool, false, true}
 use mathlib.Core.List.{List}
 use mathlib.Core.Path.{◌∙◌, ◌≡◌, ap, refl, sym}
-use Prim.Native.Nat.{◌-◌, ◌<◌, ◌^◌, ◌≤◌, suc, zero, ℕ}
+use Prim.Native.Nat.{◌<◌, ◌^◌, ◌≤◌, suc, zero, ℕ}
 use native.Mathlib.Omega.{arith}
 use lib.Dec.{T}
 use lib.IntN.{nat_abs, negsuc, pos, ℤ}
@@ -10,7 +11,7 @@ use lib.Signed.{lt_z, mag, non_neg}
 use mir.Facts.{to_z-of_z}
 use mir.Syntax.{w64}
 use mir.Val.{Fits, SFits, of_z, to_z}
-use borrow.Author.Tests.{le-ltb}
+use borrow.Author.Tests.{le-ltb, ne_eqb}
 use Rattle.layout.specs.Reading.{Refusal, bad, because}
 use Rattle.layout.specs.Tables.{Tables}
 use Rattle.layout.specs.Answers.{Answer, Message, made, prefix_read, read_answer, refused, whole_read, write_answer}
@@ -89,11 +90,7 @@ module _ (m : Message) (z : ℤ) (f : SFits w64 z) (olds : Tables) (s : List ℕ
 pub passed : (z : ℤ) → SFits w64 z → (v : ℕ) → v ≡ version_of (to_z w64 (of_z w64 z)) → v ≡ version_of z
 passed z f v e = e ∙ ap version_of (to_z-of_z f)
 
-pub unset : (n : ℕ) → n ≡ 0 → is_set n ≡ false
+pub is_set_lem : (n : ℕ) → not (n == 0) ≡ is_set n
 unfolding is_set
-unset n e = ap is_set e
-
-pub set : (n : ℕ) → (n ≡ 0 → ⊥) → is_set n ≡ true
-unfolding is_set
-set zero h = absurd (h refl)
-set (suc n) h = refl
+is_set_lem zero = refl
+is_set_lem (suc n) = ap not (ne_eqb (suc n) 0 (λ e. omega (arith, e)))

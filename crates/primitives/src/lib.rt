@@ -55,25 +55,15 @@ pub struct Refusal {
     pub need: usize,
 }
 
-// A number that is not negative, or a cell; and the bytes used.
-#[derive(Drop)]
-pub enum Number {
-    Took { value: u64, used: usize },
-    Refused(Refusal),
+// What was read, and the place after it: from the start of what the reader was given.
+#[derive(Clone, Copy)]
+pub struct Taken<T> {
+    pub value: T,
+    pub next: usize,
 }
 
-// A signed number, and the bytes used.
-#[derive(Drop)]
-pub enum Integer {
-    Took { value: i64, used: usize },
-    Refused(Refusal),
-}
-
-#[derive(Drop)]
-pub enum Flag {
-    Took { value: bool, used: usize },
-    Refused(Refusal),
-}
+// What a reader answers.
+pub type Read<T> = Result<Taken<T>, Refusal>;
 
 // A refusal at a place, with no need.
 pub fn at(number: u8, place: usize) -> Refusal
@@ -111,29 +101,14 @@ pub fn version_of(version: i64) -> u64
 pub fn is_set(n: u64) -> bool
     ensures { result ≡ is_set n }
 {
-    if n == 0 {
-        return false;
-    }
-    true
+    n != 0
 }
 
-// A length or count: null, or how many; and the bytes used.
-#[derive(Drop)]
-pub enum Count {
-    Null { used: usize },
-    Took { count: u64, used: usize },
-    Refused(Refusal),
-}
-
-// A text or data as a part of the message, and the bytes used.
-#[derive(Drop)]
-pub enum Part {
-    Took {
-        start: usize,
-        len: usize,
-        used: usize,
-    },
-    Refused(Refusal),
+// A part of the message: a text, or data.
+#[derive(Clone, Copy)]
+pub struct Span {
+    pub start: usize,
+    pub len: usize,
 }
 
 // A text or data that a version may lack and that may be null.
@@ -141,12 +116,5 @@ pub enum Part {
 pub enum Field {
     Absent,
     Null,
-    Present { start: usize, len: usize },
-}
-
-// A field, and the bytes used.
-#[derive(Drop)]
-pub enum Nullable {
-    Took { field: Field, used: usize },
-    Refused(Refusal),
+    Present(Span),
 }

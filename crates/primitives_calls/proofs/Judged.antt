@@ -13,7 +13,9 @@ use Rattle.layout.specs.Write.{or, sized_fault, too_long, unless}
 use Rattle.layout.proofs.Back.{length_bytes_lem}
 use Rattle.layout.proofs.Tests.{le-false, le-true, lt-false, lt-true, of_ge, of_lt}
 use Rattle.primitives_put.specs.Put.{behind_length}
-use Rattle.primitives_put.specs.Answers.{count_bytes, count_fault, length_fault, null_or}
+use Rattle.primitives_put.specs.Answers.{count_bytes, count_fault, length_fault}
+use Rattle.std.specs.Prelude.{Some, None}
+use mathlib.Core.Option.{none, some}
 use Rattle.primitives_put.proofs.Shortest.{unsigned_length}
 
 -- 2
@@ -36,19 +38,19 @@ behind_length_lem z x {h} i = length-append (length_bytes z (length x)) x ∙ om
 
 -- ---- a count: null, one that is carried, and one that cannot be
 
-module _ (z : Size) (b : Bool) (n : ℕ) (d : List ℕ) where
-  pub count_null : (o : Answer × List ℕ) → b ≡ true → o ≡ write_alone 0 (null_bytes z) d → o ≡ write_alone (count_fault z b n) (count_bytes z b n) d
-  unfolding count_fault count_bytes unless
-  count_null o h e = e ∙ sym (rw h)
+module _ (z : Size) (d : List ℕ) where
+  pub count_null : (o : Answer × List ℕ) → o ≡ write_alone 0 (null_bytes z) d → o ≡ write_alone (count_fault z None) (count_bytes z None) d
+  unfolding count_fault count_bytes
+  count_null o e = e
 
-  module _ (h : b ≡ false) {l : ℕ} (i : l ≡ limit z) where
-    pub count_good : (o : Answer × List ℕ) → n < l → o ≡ write_alone 0 (length_bytes z n) d → o ≡ write_alone (count_fault z b n) (count_bytes z b n) d
+  module _ (n : ℕ) {l : ℕ} (i : l ≡ limit z) where
+    pub count_good : (o : Answer × List ℕ) → n < l → o ≡ write_alone 0 (length_bytes z n) d → o ≡ write_alone (count_fault z (Some n)) (count_bytes z (Some n)) d
     unfolding count_fault count_bytes unless
-    count_good o k e = e ∙ sym (rw (h, lt-true n (limit z) (omega arith)))
+    count_good o k e = e ∙ sym (rw (lt-true n (limit z) (omega arith)))
 
-    pub count_wide : (e : Refusal) → l ≤ n → e ≡ because 2 0 → ◌≡◌ {A = Answer × List ℕ} (refused e, d) (write_alone (count_fault z b n) (count_bytes z b n) d)
+    pub count_wide : (e : Refusal) → l ≤ n → e ≡ because 2 0 → ◌≡◌ {A = Answer × List ℕ} (refused e, d) (write_alone (count_fault z (Some n)) (count_bytes z (Some n)) d)
     unfolding count_fault count_bytes unless write_alone
-    count_wide e k j = rw h ((λ t. (refused (j t), d)) ∙ sym (rw (lt-false n (limit z) (omega arith))))
+    count_wide e k j = (λ t. (refused (j t), d)) ∙ sym (rw (lt-false n (limit z) (omega arith)))
 
 -- two bytes of length carry less than 2^15
 pub over_two : (n : ℕ) → cond (leb 32768 n) 11 0 ≡ too_long (fixed w16 never) n
@@ -77,12 +79,16 @@ module _ (z : Size) (x bs d : List ℕ) (l : Bool) (i : cond l 11 0 ≡ too_long
 
 -- ---- as layouts have it: g is what may be wrong inside
 
-module _ (z : Size) (x d : List ℕ) (g : List ℕ → ℕ) {f : ℕ} (i : f ≡ g x) (o : Answer × List ℕ) where
-  pub field_written : o ≡ write_alone (length_fault z x f) (behind_length z x) d → o ≡ write_alone (sized_fault false z g x) (sized_bytes false z (λ y. y) x) d
+module _ (z : Size) (x d : List ℕ) (g : List ℕ → ℕ) {f : ℕ} (i : f ≡ g x) (o : Answer × List ℕ) (e : o ≡ write_alone (length_fault z x f) (behind_length z x) d) where
+  pub field_written : o ≡ write_alone (sized_fault false z g x) (sized_bytes false z (λ y. y) x) d
   unfolding length_fault behind_length sized_fault sized_bytes
-  field_written e = rw i at e
+  field_written = rw i at e
 
-  pub nullable_written : (b : Bool) → o ≡ write_alone (cond b 0 (length_fault z x f)) (cond b (null_bytes z) (behind_length z x)) d → o ≡ write_alone (sized_fault true z g (null_or b x)) (sized_bytes true z (λ y. y) (null_or b x)) d
+  -- where null is a value too
+  pub some_written : o ≡ write_alone (sized_fault true z g (some x)) (sized_bytes true z (λ y. y) (some x)) d
   unfolding length_fault behind_length sized_fault sized_bytes
-  nullable_written true e = e
-  nullable_written false e = rw i at e
+  some_written = rw i at e
+
+pub null_written : (z : Size) (d : List ℕ) (g : List ℕ → ℕ) (o : Answer × List ℕ) → o ≡ write_alone 0 (null_bytes z) d → o ≡ write_alone (sized_fault true z g none) (sized_bytes true z (λ y. y) none) d
+unfolding sized_fault sized_bytes
+null_written z d g o e = e

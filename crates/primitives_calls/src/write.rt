@@ -32,9 +32,10 @@ fn integer(out: &mut [u8], c: u64, k: usize, half: u64) -> Written
     if fits(c, half) {
         return answer(out.len(), primitives_put::lowest(out, c, k));
     }
-    Written::Refused(at(TOO_WIDE, 0))
+    Err(at(TOO_WIDE, 0))
 }
 
+// A function for each width, as the kinds of the C interface name them; `integer` is what they share.
 pub fn int8(out: &mut [u8], value: i64) -> Written
     ensures { replied result out.new ≡ write_alone (unless (holds w8 (cell_of value)) 11) (integer_bytes w8 value) out.old }
 {
@@ -72,7 +73,7 @@ pub fn varint(out: &mut [u8], value: i64) -> Written
     if n < 4294967296 {
         return unsigned_varint(out, n);
     }
-    Written::Refused(at(TOO_WIDE, 0))
+    Err(at(TOO_WIDE, 0))
 }
 
 // ---- all 64 bits
@@ -119,16 +120,16 @@ fn null_length(out: &mut [u8], form: Form) -> Written
 }
 
 // A count, or null. An array of as many items as no count can carry is over MOST.
-fn count(out: &mut [u8], form: Form, null: bool, n: u64) -> Written
-    ensures { replied result out.new ≡ write_alone (count_fault (size_of form) null n) (count_bytes (size_of form) null n) out.old }
+fn count(out: &mut [u8], form: Form, n: Option<u64>) -> Written
+    ensures { replied result out.new ≡ write_alone (count_fault (size_of form) n) (count_bytes (size_of form) n) out.old }
 {
-    if null {
+    let Some(n) = n else {
         return null_length(out, form);
-    }
+    };
     if n < limit(form) {
         return answer(out.len(), primitives_put::length(out, form, n));
     }
-    Written::Refused(at(TOO_LONG, 0))
+    Err(at(TOO_LONG, 0))
 }
 
 // A text or data that is good, behind its length. Its size is known before anything is stored.
@@ -137,7 +138,7 @@ fn carried(out: &mut [u8], form: Form, value: &[u8]) -> Written
 {
     let all = primitives_put::length_size(form, value.len() as u64) + value.len();
     if MOST < all {
-        return Written::Refused(at(TOO_LONG, 0));
+        return Err(at(TOO_LONG, 0));
     }
     answer(out.len(), primitives_put::sized(out, form, value))
 }
@@ -147,22 +148,12 @@ fn sized(out: &mut [u8], form: Form, value: &[u8], good: bool) -> Written
     ensures { replied result out.new ≡ write_alone (length_fault (size_of form) value.now (unless good 7)) (behind_length (size_of form) value.now) out.old }
 {
     if too_long(form, value.len()) {
-        return Written::Refused(at(TOO_WIDE, 0));
+        return Err(at(TOO_WIDE, 0));
     }
     if good {
         return carried(out, form, value);
     }
-    Written::Refused(at(NOT_TEXT, 0))
-}
-
-// The same, or null.
-fn nullable(out: &mut [u8], form: Form, null: bool, value: &[u8], good: bool) -> Written
-    ensures { replied result out.new ≡ write_alone (cond null 0 (length_fault (size_of form) value.now (unless good 7))) (cond null (null_bytes (size_of form)) (behind_length (size_of form) value.now)) out.old }
-{
-    if null {
-        return null_length(out, form);
-    }
-    sized(out, form, value, good)
+    Err(at(NOT_TEXT, 0))
 }
 
 // STRING: the length as an Int16, and the text.
@@ -172,11 +163,14 @@ pub fn string(out: &mut [u8], value: &[u8]) -> Written
     sized(out, Form::Int16, value, utf8::is_text(value))
 }
 
-// NULLABLE_STRING: the same, and -1 for null, where the value is not looked at.
-pub fn nullable_string(out: &mut [u8], null: bool, value: &[u8]) -> Written
-    ensures { replied result out.new ≡ write_alone (basic_fault (text (fixed w16 kept)) (null_or null value.now)) (write_basic (text (fixed w16 kept)) (null_or null value.now)) out.old }
+// NULLABLE_STRING: the same, and -1 for null.
+pub fn nullable_string(out: &mut [u8], value: Option<&[u8]>) -> Written
+    ensures { replied result out.new ≡ write_alone (basic_fault (text (fixed w16 kept)) (null_or value.entry)) (write_basic (text (fixed w16 kept)) (null_or value.entry)) out.old }
 {
-    nullable(out, Form::Int16, null, value, utf8::is_text(value))
+    match value {
+        Some(value) => sized(out, Form::Int16, value, utf8::is_text(value)),
+        None => null_length(out, Form::Int16),
+    }
 }
 
 // COMPACT_STRING: one more than the length as an unsigned varint, and the text.
@@ -187,10 +181,13 @@ pub fn compact_string(out: &mut [u8], value: &[u8]) -> Written
 }
 
 // COMPACT_NULLABLE_STRING: the same, and 0 for null.
-pub fn compact_nullable_string(out: &mut [u8], null: bool, value: &[u8]) -> Written
-    ensures { replied result out.new ≡ write_alone (basic_fault (text (compact kept)) (null_or null value.now)) (write_basic (text (compact kept)) (null_or null value.now)) out.old }
+pub fn compact_nullable_string(out: &mut [u8], value: Option<&[u8]>) -> Written
+    ensures { replied result out.new ≡ write_alone (basic_fault (text (compact kept)) (null_or value.entry)) (write_basic (text (compact kept)) (null_or value.entry)) out.old }
 {
-    nullable(out, Form::Compact, null, value, utf8::is_text(value))
+    match value {
+        Some(value) => sized(out, Form::Compact, value, utf8::is_text(value)),
+        None => null_length(out, Form::Compact),
+    }
 }
 
 // BYTES: the length as an Int32, and the data.
@@ -201,10 +198,13 @@ pub fn bytes(out: &mut [u8], value: &[u8]) -> Written
 }
 
 // NULLABLE_BYTES: the same, and -1 for null.
-pub fn nullable_bytes(out: &mut [u8], null: bool, value: &[u8]) -> Written
-    ensures { replied result out.new ≡ write_alone (basic_fault (blob (fixed w32 kept)) (null_or null value.now)) (write_basic (blob (fixed w32 kept)) (null_or null value.now)) out.old }
+pub fn nullable_bytes(out: &mut [u8], value: Option<&[u8]>) -> Written
+    ensures { replied result out.new ≡ write_alone (basic_fault (blob (fixed w32 kept)) (null_or value.entry)) (write_basic (blob (fixed w32 kept)) (null_or value.entry)) out.old }
 {
-    nullable(out, Form::Int32, null, value, true)
+    match value {
+        Some(value) => sized(out, Form::Int32, value, true),
+        None => null_length(out, Form::Int32),
+    }
 }
 
 // COMPACT_BYTES: one more than the length as an unsigned varint, and the data.
@@ -222,15 +222,15 @@ pub fn records(out: &mut [u8], value: &[u8]) -> Written
 }
 
 // The count of an ARRAY: an Int32, and -1 for null.
-pub fn array_count(out: &mut [u8], null: bool, n: u64) -> Written
-    ensures { replied result out.new ≡ write_alone (count_fault (fixed w32 kept) null n) (count_bytes (fixed w32 kept) null n) out.old }
+pub fn array_count(out: &mut [u8], n: Option<u64>) -> Written
+    ensures { replied result out.new ≡ write_alone (count_fault (fixed w32 kept) n) (count_bytes (fixed w32 kept) n) out.old }
 {
-    count(out, Form::Int32, null, n)
+    count(out, Form::Int32, n)
 }
 
 // The count of a COMPACT_ARRAY: one more than it as an unsigned varint, and 0 for null.
-pub fn compact_array_count(out: &mut [u8], null: bool, n: u64) -> Written
-    ensures { replied result out.new ≡ write_alone (count_fault (compact kept) null n) (count_bytes (compact kept) null n) out.old }
+pub fn compact_array_count(out: &mut [u8], n: Option<u64>) -> Written
+    ensures { replied result out.new ≡ write_alone (count_fault (compact kept) n) (count_bytes (compact kept) n) out.old }
 {
-    count(out, Form::Compact, null, n)
+    count(out, Form::Compact, n)
 }

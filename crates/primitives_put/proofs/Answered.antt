@@ -10,8 +10,7 @@ use Rattle.layout.specs.Answers.{Answer, accepted, refused, write_alone}
 use Rattle.layout.specs.Reading.{Refusal, because, no_room}
 use Rattle.layout.specs.Write.{unless}
 use Rattle.primitives_put.specs.Put.{Put}
-use Rattle.primitives_put.specs.Answers.{of_written, replied, told}
-use Rattle.primitives_put.specs.declared.Written.{Written}
+use Rattle.primitives_put.specs.Answers.{Written, of_written, replied, told}
 use Rattle.layout.proofs.Tests.{le-false, le-true}
 
 pub refused_alone : (e : ℕ) (bs out : List ℕ) (r : Refusal) → r ≡ because e 0 → e ≢ 0 → {f : ℕ} → e ≡ f → ◌≡◌ {A = Answer × List ℕ} (refused r, out) (write_alone f bs out)

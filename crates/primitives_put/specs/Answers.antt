@@ -1,33 +1,41 @@
 -- What a call that writes answers, and the output behind it.
-use Rattle.std.specs.Prelude.{◌-◌, ◌^◌, ℕ, leb, ltb, drop, length, Bool, cond, false, true, List, [], ◌++◌, ◌≡◌}
+use Rattle.std.specs.Prelude.{◌-◌, ◌^◌, ℕ, leb, ltb, length, Bool, cond, false, true, List, [], Result, Ok, Err, Some, None, Option as Maybe}
 use Rattle.std.proofs.Math.Option.{Option, none, some}
+use denote.Ref.{Bor}
 use Rattle.layout.specs.Reading.{no_room}
 use Rattle.layout.specs.Answers.{Answer, accepted, refused}
-use Rattle.layout.specs.Primitives.{Size, compact, fixed, length_bytes, limit, never, null_bytes, w16, w32}
+use Rattle.layout.specs.Primitives.{Size, length_bytes, limit, null_bytes}
 use Rattle.layout.specs.Write.{or, too_long, unless}
 use Rattle.primitives.specs.Answers.{of_refusal}
-use Rattle.primitives_put.specs.declared.Written.{Written}
+use Rattle.primitives.specs.declared.Refusal.{Refusal}
+
+-- how many bytes were written, or why none were
+abbrev pub Written : Type 0
+Written = Result ℕ Refusal
 
 -- writers have no row to show
 abbrev pub of_written : Written → Answer
-of_written (Written.Wrote n) = accepted [] n
-of_written (Written.Refused e) = refused (of_refusal e)
+of_written (Ok n) = accepted [] n
+of_written (Err e) = refused (of_refusal e)
 
 -- a count, or null
-unfoldable pub count_bytes : Size → Bool → ℕ → List ℕ
-count_bytes z null n = cond null (null_bytes z) (length_bytes z n)
+unfoldable pub count_bytes : Size → Maybe ℕ → List ℕ
+count_bytes z None = null_bytes z
+count_bytes z (Some n) = length_bytes z n
 
 -- 2: a count that cannot be carried, for an array of so many items is over the size of a body
-unfoldable pub count_fault : Size → Bool → ℕ → ℕ
-count_fault z null n = unless (cond null true (ltb n (limit z))) 2
+unfoldable pub count_fault : Size → Maybe ℕ → ℕ
+count_fault z None = 0
+count_fault z (Some n) = unless (ltb n (limit z)) 2
 
 -- 11: too long; else e, what is wrong inside
 unfoldable pub length_fault : Size → List ℕ → ℕ → ℕ
 length_fault z x e = or (too_long z (length x)) e
 
--- null, or the value lent beside it
-abbrev pub null_or : Bool → List ℕ → Option (List ℕ)
-null_or null x = cond null none (some x)
+-- null, or the value that is lent
+abbrev pub null_or : Maybe (Bor (List ℕ)) → Option (List ℕ)
+null_or None = none
+null_or (Some x) = some x.now
 
 -- the answer where n bytes were put into an output of so much room
 unfoldable pub told : ℕ → ℕ → Answer

@@ -8,7 +8,7 @@ ghost use Rattle.layout.specs.Primitives.{bytes, flag_bytes, length_bytes, null_
 ghost use Rattle.primitives_put.specs.Step.{cap};
 ghost use Rattle.primitives_put.specs.Put.{Put, behind_length, size_of};
 
-use primitives::{MOST, Refusal};
+use primitives::Refusal;
 
 pub mod replies;
 
@@ -24,23 +24,14 @@ pub enum Form {
 pub fn add(n: usize, m: usize) -> usize
     ensures { cap result ≡ cap (n + m) }
 {
-    if MOST < n {
-        return n;
-    }
-    if MOST < m {
-        return m;
-    }
-    n + m
+    n.saturating_add(m)
 }
 
 // Where the rest behind n bytes begins: at the end, where there are not so many.
 pub fn behind(n: usize, room: usize) -> usize
     ensures { result ≡ min n room }
 {
-    if n <= room {
-        return n;
-    }
-    room
+    n.min(room)
 }
 
 // The lowest k bytes of the cell, highest first.
@@ -49,11 +40,9 @@ pub fn lowest(out: &mut [u8], cell: u64, k: usize) -> usize
 {
     if k <= out.len() {
         let mut left = cell;
-        let mut p = k;
-        while 0 < p {
-            p = p - 1;
+        for p in (0..k).rev() {
             out[p] = (left % 256) as u8;
-            left = left / 256;
+            left /= 256;
         }
     }
     k
@@ -85,17 +74,14 @@ pub fn unsigned_varint(out: &mut [u8], n: u64) -> usize
     }
     let count = varint_length(n);
     if count <= out.len() {
+        // Tried and slower, for two to four bytes: `for p in 0..count - 1`.
         let mut left = n;
-        let mut p: usize = 0;
+        let mut p = 0;
         while 128 <= left {
             let group = 128 + left % 128;
-            // Never: seven bits and the bit that says that more follow fit a byte.
-            if 255 < group {
-                return count;
-            }
             out[p] = group as u8;
-            left = left / 128;
-            p = p + 1;
+            left /= 128;
+            p += 1;
         }
         out[p] = left as u8;
     }
@@ -108,16 +94,15 @@ fn byte_by_byte(out: &mut [u8], content: &[u8]) -> usize
     ensures { Put content.now out.old result out.new }
 {
     if content.len() <= out.len() {
-        let mut p: usize = 0;
-        while p < content.len() {
+        for p in 0..content.len() {
             out[p] = content[p];
-            p = p + 1;
         }
     }
     content.len()
 }
 
 // The first eight. All are read before the first is stored, so that one load and one store do.
+// Tried and slower: `out[..8].copy_from_slice(..)` is a call for eight bytes too.
 fn eight(out: &mut [u8], content: &[u8])
     requires { (8 ≤ length out.old) × (8 ≤ length content.now) }
     ensures { out.new ≡ take 8 content.now ++ drop 8 out.old }
@@ -153,17 +138,18 @@ fn up_to_sixteen(out: &mut [u8], content: &[u8]) -> usize
     n
 }
 
-// More: eight behind eight, and the last eight.
+// More: eight after eight, and the last eight. Tried and kept out: `copy_from_slice`, by which the library would ask for a function of the C library.
 fn by_eights(out: &mut [u8], content: &[u8]) -> usize
     requires { 8 ≤ length content.now }
     ensures { Put content.now out.old result out.new }
 {
     let n = content.len();
     if n <= out.len() {
+        // The last turn is left out, and what it would copy overlaps: no range counts that.
         let mut p: usize = 0;
         while 8 < n - p {
             eight(&mut out[p..], &content[p..]);
-            p = p + 8;
+            p += 8;
         }
         eight(&mut out[n - 8..], &content[n - 8..]);
     }
@@ -187,10 +173,10 @@ pub fn raw(out: &mut [u8], content: &[u8]) -> usize
 fn compact_length(out: &mut [u8], n: u64) -> usize
     ensures { Put (unsigned_bytes (n + 1)) out.old result out.new }
 {
-    if n < 18446744073709551615 {
-        return unsigned_varint(out, n + 1);
+    match n.checked_add(1) {
+        Some(more) => unsigned_varint(out, more),
+        None => raw(out, &[128, 128, 128, 128, 128, 128, 128, 128, 128, 2]),
     }
-    raw(out, &[128, 128, 128, 128, 128, 128, 128, 128, 128, 2])
 }
 
 // How many bytes that takes. Most lengths take one.
@@ -200,10 +186,10 @@ fn compact_size(n: u64) -> usize
     if n < 127 {
         return 1;
     }
-    if n < 18446744073709551615 {
-        return varint_length(n + 1);
+    match n.checked_add(1) {
+        Some(more) => varint_length(more),
+        None => 10,
     }
-    10
 }
 
 // How many bytes a length takes.
@@ -254,8 +240,4 @@ pub fn sized(out: &mut [u8], form: Form, content: &[u8]) -> usize
 }
 
 // How many bytes were written, or why none were.
-#[derive(Drop)]
-pub enum Written {
-    Wrote(usize),
-    Refused(Refusal),
-}
+pub type Written = Result<usize, Refusal>;

@@ -10,11 +10,7 @@ use primitives::no_room;
 pub fn cell(value: i64) -> u64
     ensures { result ≡ cell_of value }
 {
-    if value >= 0 {
-        value as u64
-    } else {
-        18446744073709551615 - ((-1 - value) as u64)
-    }
+    value.cast_unsigned()
 }
 
 // What is answered where n bytes were put into an output of so much room.
@@ -22,9 +18,9 @@ pub fn answer(room: usize, n: usize) -> Written
     ensures { of_written result ≡ told room n }
 {
     if n <= room {
-        return Written::Wrote(n);
+        return Ok(n);
     }
-    Written::Refused(no_room(n))
+    Err(no_room(n))
 }
 
 // Does the cell hold a number from -half to half - 1?

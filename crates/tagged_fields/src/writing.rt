@@ -20,10 +20,7 @@ use primitives_put::Written;
 pub fn is_good(size: usize, count: u64, table: &[u64]) -> bool
     ensures { result ≡ good size 1 (tags_shape true 1) ((count ∷ []) ∷ table.now ∷ []) }
 {
-    if rows_told(count) != (table.len() / 3) as u64 {
-        return false;
-    }
-    all_ranged(size, table, Row::Tag)
+    rows_told(count) == (table.len() / 3) as u64 && all_ranged(size, table, Row::Tag)
 }
 
 // ---- the walk
@@ -55,18 +52,15 @@ fn put_row(out: &mut [u8], lent: &[u8], table: &[u64], i: usize) -> usize
     put_tag(out, lent, table[i * 3], table[i * 3 + 1], table[i * 3 + 2])
 }
 
-// Row behind row.
+// Row after row.
 fn put_tags(out: &mut [u8], lent: &[u8], table: &[u64]) -> usize
     ensures { Capped (rows_bytes lent.now tag_shape 3 table.now) out.old result out.new }
 {
-    let n = table.len() / 3;
-    let mut done: usize = 0;
-    let mut i: usize = 0;
-    while i < n {
+    let mut done = 0;
+    for i in 0..table.len() / 3 {
         let p = primitives_put::behind(done, out.len());
         let more = put_row(&mut out[p..], lent, table, i);
         done = primitives_put::add(done, more);
-        i = i + 1;
     }
     done
 }
@@ -88,15 +82,15 @@ pub fn tagged_fields(out: &mut [u8], lent: &[u8], count: u64, table: &[u64]) -> 
     ensures { replied result out.new ≡ write_answer tags_alone (pos 0) lent.now ((count ∷ []) ∷ table.now ∷ []) out.old }
 {
     if !is_good(lent.len(), count, table) {
-        return Written::Refused(at(BAD_TABLES, 0));
+        return Err(at(BAD_TABLES, 0));
     }
     let all = tag_buffer(&mut out[..0], lent, table);
     if MOST < all {
-        return Written::Refused(at(TOO_LONG, 0));
+        return Err(at(TOO_LONG, 0));
     }
     if out.len() < all {
-        return Written::Refused(no_room(all));
+        return Err(no_room(all));
     }
     tag_buffer(out, lent, table);
-    Written::Wrote(all)
+    Ok(all)
 }

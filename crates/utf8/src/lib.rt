@@ -12,6 +12,7 @@ use classes::CLASSES;
 // The high bit of each of eight bytes.
 const HIGH: u64 = 9259542123273814144;
 
+// A number and no enum: the table is proved as numbers, and the classes of three bytes and of four are ranges of them.
 fn class(classes: &[u8; 256], b: u8) -> u8
     requires { Right classes.now }
     ensures { result ≡ class_of b }
@@ -24,38 +25,32 @@ fn low(k: u8) -> u8
     requires { (2 ≤ k) × (k < 9) }
     ensures { result ≡ (second_of k).0 }
 {
-    if k == 2 {
-        return 0xA0;
+    match k {
+        2 => 0xA0,
+        6 => 0x90,
+        _ => 0x80,
     }
-    if k == 6 {
-        return 0x90;
-    }
-    0x80
 }
 
 fn high(k: u8) -> u8
     requires { (2 ≤ k) × (k < 9) }
     ensures { result ≡ (second_of k).1 }
 {
-    if k == 4 {
-        return 0x9F;
+    match k {
+        4 => 0x9F,
+        8 => 0x8F,
+        _ => 0xBF,
     }
-    if k == 8 {
-        return 0x8F;
-    }
-    0xBF
 }
 
 fn between(b: u8, least: u8, most: u8) -> bool
     ensures { result ≡ within (least, most) b }
 {
-    if least <= b {
-        return b <= most;
-    }
-    false
+    least <= b && b <= most
 }
 
 // The length of the character at at, whose first byte is of a class of two bytes, three, four; 0 if it is cut or ill-formed.
+// A function for each length: a loop over the ranges of the bytes after the first is no plainer.
 fn two(s: &[u8], at: usize) -> usize
     requires { at < length s.now }
     ensures { result ≡ after (tail ∷ []) (drop (at + 1) s.now) }
@@ -148,13 +143,13 @@ fn is_ascii(s: &[u8], at: usize) -> bool
 fn eights(s: &[u8]) -> usize
     ensures { Along s.now result }
 {
-    let mut at: usize = 0;
+    // `step_by(8)` is no plainer: the place after the last eight is what is answered.
+    let mut at = 0;
     while 8 <= s.len() - at {
-        if is_ascii(s, at) {
-            at = at + 8;
-        } else {
+        if !is_ascii(s, at) {
             return at;
         }
+        at += 8;
     }
     at
 }
@@ -180,12 +175,13 @@ fn plain(s: &[u8], from: usize) -> usize
     if ends_ascii(s, from) {
         return s.len();
     }
+    // Tried and slower for short texts of ASCII: `for at in from..s.len()`.
     let mut at = from;
     while at < s.len() {
         if 128 <= s[at] {
             return at;
         }
-        at = at + 1;
+        at += 1;
     }
     at
 }
@@ -196,13 +192,14 @@ fn walk(s: &[u8], from: usize) -> usize
     ensures { result ≡ well_formed s.now }
 {
     let classes = CLASSES;
+    // Characters differ in length, so no range counts them.
     let mut at = from;
     while at < s.len() {
         let n = character(&classes, s, at);
         if n == 0 {
             return at;
         }
-        at = at + n;
+        at += n;
     }
     at
 }

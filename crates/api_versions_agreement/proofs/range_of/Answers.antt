@@ -1,16 +1,11 @@
-use Prim.Native.Nat.{◌-◌}
-use borrow.Author.Rules.{rules}
-use Rattle.api_versions_agreement.proofs.FirstRow.{searched_start, searched_next, searched_found, searched_none}
+use Rattle.api_versions_agreement.proofs.FirstRow.{searched_next, range_found, range_none}
 use Rattle.api_versions_agreement.proofs.range_of.Goals as goal
 
-pub loop-i-init : goal.loop-i-init
-loop-i-init c = searched_start _ _
+pub returns-then-row-key : goal.returns-then-row-key
+returns-then-row-key c = range_found _ _ _ c.as_chunks.ensures.front _ c.loop-row.invariant c.loop-row-test.true c.if-row-key.true
 
-pub returns-then-items-i : goal.returns-then-items-i
-returns-then-items-i c = searched_found _ _ _ c.loop-i.invariant c.loop-i-test.true c.if-items-i.true
-
-pub loop-i-preserved : goal.loop-i-preserved
-loop-i-preserved c = searched_next _ _ _ c.loop-i.invariant c.loop-i-test.true c.if-items-i.false
+pub loop-row-preserved : goal.loop-row-preserved
+loop-row-preserved c = searched_next _ _ _ c.loop-row.invariant c.loop-row-test.true c.if-row-key.false
 
 pub returns : goal.returns
-returns c = search (rules, searched_none)
+returns c = range_none _ _ _ c.as_chunks.ensures.front _ c.loop-row.invariant c.loop-row-test.false

@@ -1,20 +1,18 @@
-use mathlib.Core.Path.{◌∙◌, ap, sym}
-use Rattle.primitives.specs.Answers.{of_refusal}
-use Rattle.metadata_response.specs.Brokers.{of_broker, of_broker_row}
+use Rattle.metadata_response.specs.Brokers.{of_broker}
 use Rattle.metadata_lookup.proofs.Bodies.{left_all, left_here, left_no, left_none, left_past}
 use Rattle.metadata_lookup.proofs.seek.Goals as goal
 
-pub loop-left-init : goal.loop-left-init
-loop-left-init c = left_all _ _ _ _ _
+pub loop-init : goal.loop-init
+loop-init c = left_all _ _ _ _ _
+
+pub returns-in_err-broker : goal.returns-in_err-broker
+returns-in_err-broker c = left_no _ _ _ _ _ _ _ c.loop.invariant c.loop-test.true _ c.in_err-broker.ensures _
 
 pub returns-then-row-node : goal.returns-then-row-node
-returns-then-row-node c = left_here _ _ _ _ _ _ _ c.loop-left.invariant c.loop-left-test.true (of_broker c.in-Took.row) _ (ap of_broker_row (sym c.in-Took.is) ∙ c.broker_row.ensures) c.if-row-node.true
+returns-then-row-node c = left_here _ _ _ _ _ _ _ c.loop.invariant c.loop-test.true (of_broker c.in_ok-broker.broker.value) _ c.in_ok-broker.ensures c.if-row-node.true
 
-pub loop-left-preserved : goal.loop-left-preserved
-loop-left-preserved c = left_past _ _ _ _ _ _ _ c.loop-left.invariant c.loop-left-test.true (of_broker c.in-Took.row) _ (ap of_broker_row (sym c.in-Took.is) ∙ c.broker_row.ensures) c.if-row-node.false
-
-pub returns-in-Refused : goal.returns-in-Refused
-returns-in-Refused c = left_no _ _ _ _ _ _ _ c.loop-left.invariant c.loop-left-test.true (of_refusal c.in-Refused.e) (ap of_broker_row (sym c.in-Refused.is) ∙ c.broker_row.ensures) _
+pub loop-preserved : goal.loop-preserved
+loop-preserved c = left_past _ _ _ _ _ _ _ c.loop.invariant c.loop-test.true (of_broker c.in_ok-broker.broker.value) _ c.in_ok-broker.ensures c.if-row-node.false
 
 pub returns : goal.returns
-returns c = left_none _ _ _ _ _ _ _ c.loop-left.invariant c.loop-left-test.false
+returns c = left_none _ _ _ _ _ _ _ c.loop.invariant c.loop-test.false

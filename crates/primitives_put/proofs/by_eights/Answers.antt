@@ -1,5 +1,4 @@
 use mathlib.Core.Path.{refl}
-use Prim.Native.Nat.{◌-◌}
 use Rattle.primitives_put.proofs.Parts.{copied_start, eight_more, eights_end}
 use Rattle.primitives_put.proofs.Stored.{put_none}
 use borrow.Author.Rules.{rules}

@@ -1,5 +1,4 @@
 use mathlib.Core.Path.{refl}
-use Prim.Native.Nat.{◌-◌}
 use borrow.Author.Rules.{rules}
 use Rattle.primitives_put.proofs.Parts.{copied_again, copied_end, copied_start}
 use Rattle.primitives_put.proofs.Stored.{put_none}

@@ -10,9 +10,6 @@ returns-then-n-lt128 c = search (rules, put_one)
 pub loop-left-init : goal.loop-left-init
 loop-left-init c = up_start _ _ (omega arith)
 
-pub returns-then-group-gt255 : goal.returns-then-group-gt255
-returns-then-group-gt255 c = absurd (omega arith)
-
 pub bounds-out-p : goal.bounds-out-p
 bounds-out-p c = search (rules, up_room)
 

@@ -6,6 +6,6 @@ pub returns-then-least-b : goal.returns-then-least-b
 unfolding within
 returns-then-least-b c = rw (le-leb _ _ c.if-least-b.true)
 
-pub returns : goal.returns
+pub returns-else-least-b : goal.returns-else-least-b
 unfolding within
-returns c = rw (lt-leb _ _ c.if-least-b.false)
+returns-else-least-b c = rw (lt-leb _ _ c.if-least-b.false)

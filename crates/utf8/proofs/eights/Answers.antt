@@ -1,4 +1,3 @@
-use Prim.Native.Nat.{◌-◌}
 use borrow.Author.Rules.{rules}
 use Rattle.utf8.proofs.Steps.{next_eight, start}
 use Rattle.utf8.proofs.eights.Goals as goal

@@ -1,4 +1,3 @@
-use Prim.Native.Nat.{◌-◌}
 use borrow.Author.Rules.{rules}
 use Rattle.utf8.proofs.Steps.{next_ascii}
 use Rattle.utf8.proofs.plain.Goals as goal

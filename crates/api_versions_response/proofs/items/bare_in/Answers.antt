@@ -5,8 +5,8 @@ use Rattle.api_versions_response.proofs.items.bare_in.Goals as goal
 pub returns-then-items-row : goal.returns-then-items-row
 returns-then-items-row c = bare_out _ _ c.requires _ _ _ c.skip4.ensures c.if-items-row.true
 
-pub returns-in-Took : goal.returns-in-Took
-returns-in-Took c = bare_stored _ _ c.requires _ c.key_at.ensures _ _ _ _ c.in-Took.is _ _ _ _ c.store4.ensures
+pub returns-in-Ok : goal.returns-in-Ok
+returns-in-Ok c = bare_stored _ _ c.requires _ _ _ _ c.in-Ok.ensures _ _ _ _ c.store_row.ensures
 
-pub returns-in-Refused : goal.returns-in-Refused
-returns-in-Refused c = bare_never _ _ c.requires _ c.key_at.ensures _ c.in-Refused.is
+pub returns-in-Err : goal.returns-in-Err
+returns-in-Err c = bare_never _ _ c.requires _ c.in-Err.ensures

@@ -8,7 +8,7 @@ pub returns-then-not-is_good : goal.returns-then-not-is_good
 returns-then-not-is_good c = fault_bad _ _ _ c.is_good.ensures c.if-not-is_good.true
 
 pub returns-then-not-is_carried : goal.returns-then-not-is_carried
-returns-then-not-is_carried c = unless_bad _ _ _ (is_told c.args.throttle _ c.args.n c.args.items.now (λ k. omega (arith, c.shared_slice_known-1.given k)) (omega arith) _ _ c.is_good.ensures c.if-not-is_good.false _ c.is_carried.ensures) c.if-not-is_carried.true
+returns-then-not-is_carried c = unless_bad _ _ _ (is_told c.args.throttle _ c.args.n c.args.items.now (λ k. omega (arith, c.type_inv.items k)) (omega arith) _ _ c.is_good.ensures c.if-not-is_good.false _ c.is_carried.ensures) c.if-not-is_carried.true
 
 pub returns : goal.returns
-returns c = unless_none _ 11 _ (is_told c.args.throttle _ c.args.n c.args.items.now (λ k. omega (arith, c.shared_slice_known-1.given k)) (omega arith) _ _ c.is_good.ensures c.if-not-is_good.false _ c.is_carried.ensures) c.if-not-is_carried.false
+returns c = unless_none _ 11 _ (is_told c.args.throttle _ c.args.n c.args.items.now (λ k. omega (arith, c.type_inv.items k)) (omega arith) _ _ c.is_good.ensures c.if-not-is_good.false _ c.is_carried.ensures) c.if-not-is_carried.false

@@ -1,6 +1,5 @@
 -- Read where the version has it.
 use Rattle.body_reading.proofs.Alone.{int64_lacks, int64_there}
-use borrow.Author.Tests.{not-false, not-true}
 use Rattle.body_reading.proofs.versioned.int64_if.Goals as goal
 
 pub returns-then-not-there : goal.returns-then-not-there

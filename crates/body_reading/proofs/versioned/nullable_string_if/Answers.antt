@@ -1,6 +1,5 @@
 -- Read where the version has it: then null is one value of it, and absent is none.
 use Rattle.body_reading.proofs.Alone.{text_lacks, text_there}
-use borrow.Author.Tests.{not-false, not-true}
 use Rattle.body_reading.proofs.versioned.nullable_string_if.Goals as goal
 
 pub returns-then-not-there : goal.returns-then-not-there

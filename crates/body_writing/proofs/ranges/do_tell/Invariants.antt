@@ -1,10 +1,8 @@
 -- Before each turn the rows left decide, with what is left of the number.
-use Prim.Native.Nat.{◌-◌}
-use Rattle.body_writing.proofs.Counts.{Telling}
+use mathlib.Core.Path.{◌≡◌}
+use Rattle.layout.specs.Tables.{rows_of}
+use Rattle.body_writing.specs.Asked.{tells}
 use Rattle.body_writing.proofs.ranges.do_tell.Given as goal
 
-abbrev pub invariant-loop-i : goal.invariant-loop-i
-invariant-loop-i l = Telling l.null l.width l.at l.table l.n l.left l.i
-
-abbrev pub decreases-loop-i : goal.decreases-loop-i
-decreases-loop-i l = l.rows - l.i
+abbrev pub invariant-loop-row : goal.invariant-loop-row
+invariant-loop-row l = (tells l.null l.at l.left (rows_of l.width l.row-iterator.rest.now) ≡ tells l.null l.at l.n (rows_of l.width l.table)) × (l.row-iterator.size ≡ l.width)

@@ -1,11 +1,8 @@
--- Before each turn the first i rows have no fault, and those left decide.
-use Prim.Native.Nat.{◌-◌}
-use Rattle.body_writing.proofs.Judged.{Judged}
+-- Before each turn the rows left decide.
+use mathlib.Core.Path.{◌≡◌}
+use Rattle.layout.specs.Tables.{all, rows_of}
 use Rattle.fetch_request.proofs.Judgement.{clean}
 use Rattle.fetch_request.proofs.judge.all_fit.Given as goal
 
-abbrev pub invariant-loop-i : goal.invariant-loop-i
-invariant-loop-i l = Judged clean 3 l.partitions l.i
-
-abbrev pub decreases-loop-i : goal.decreases-loop-i
-decreases-loop-i l = l.n - l.i
+abbrev pub invariant-loop-row : goal.invariant-loop-row
+invariant-loop-row l = (all clean (rows_of 3 l.row-iterator.rest.now) ≡ all clean (rows_of 3 l.partitions)) × (l.row-iterator.size ≡ 3)

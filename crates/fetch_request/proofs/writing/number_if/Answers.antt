@@ -1,10 +1,9 @@
 -- A version that lacks the field writes nothing.
-use Rattle.primitives_put.proofs.Capped.{capped, capped_lacking, capped_there}
-use Rattle.primitives_put.proofs.Stored.{put_step}
+use Rattle.fetch_request.proofs.Walk.{number_lacking, number_there}
 use Rattle.fetch_request.proofs.writing.number_if.Goals as goal
 
-pub returns-then-has : goal.returns-then-has
-returns-then-has c = capped_there _ c.if-has.true (capped (put_step c.lowest.ensures))
+pub returns-in-Some : goal.returns-in-Some
+returns-in-Some c = number_there _ _ c.in-Some.is c.lowest.ensures
 
-pub returns : goal.returns
-returns c = capped_lacking _ c.if-has.false _ _
+pub returns-in-None : goal.returns-in-None
+returns-in-None c = number_lacking _ _ c.in-None.is _

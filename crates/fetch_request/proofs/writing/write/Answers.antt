@@ -1,4 +1,6 @@
 -- A version that is not known is refused, and at every other the promise is that of the walk.
+use mathlib.Core.Path.{◌∙◌, ap}
+use Rattle.std.specs.Bool.{then_some}
 use Rattle.primitives.proofs.Versions.{passed, unwritten}
 use Rattle.fetch_request.proofs.Call.{request_written}
 use native.Mathlib.Omega.{arith}
@@ -8,4 +10,4 @@ pub returns-then-v-gt4 : goal.returns-then-v-gt4
 returns-then-v-gt4 c = unwritten _ _ _ (passed _ c.ranges.version _ c.version_of-v.ensures) c.if-v-gt4.true _ _ _ _ c.at.ensures
 
 pub returns : goal.returns
-returns c = request_written c.args.lent.now _ _ _ _ c.args.topics.now c.args.partitions.now _ (omega arith) _ c.if-v-gt4.false c.args.body.max_bytes c.args.body.isolation _ (passed _ c.ranges.version _ c.version_of-v.ensures) _ c.given-largest.ensures _ c.given-level.ensures _ c.written.ensures
+returns c = request_written c.args.lent.now _ _ _ _ c.args.topics.now c.args.partitions.now _ (omega arith) _ c.if-v-gt4.false c.args.body.max_bytes c.args.body.isolation _ (passed _ c.ranges.version _ c.version_of-v.ensures) _ (c.then_some.ensures ∙ ap (then_some _) c.unwrap_or-largest.ensures) _ (c.then_some-2.ensures ∙ ap (then_some _) c.unwrap_or-level.ensures) _ c.written.ensures

@@ -1,15 +1,14 @@
--- Two numbers, one behind the other, and a store of each.
-use mathlib.Core.Path.{◌∙◌, ap, sym}
-use Rattle.primitives.specs.Answers.{of_number}
-use Rattle.body_reading.proofs.Stores.{store_next}
+-- Two numbers, one after the other, and one store of both.
+use Rattle.body_reading.specs.Walked.{filled_is}
 use Rattle.fetch_response.proofs.AbortedRows.{offset_no, pair_took, producer_no}
+use Rattle.fetch_response.proofs.Handed.{handed}
 use Rattle.fetch_response.proofs.aborted.pair_at.Goals as goal
 
-pub returns-in-Took-int64_at : goal.returns-in-Took-int64_at
-returns-in-Took-int64_at c = pair_took _ _ _ _ _ _ (ap of_number (sym c.in-Took.is) ∙ c.int64_at.ensures) _ _ (ap of_number (sym c.in-Took-int64_at.is) ∙ c.int64_at-in-Took.ensures) _ _ (store_next _ _ _ _ _ c.store-second.ensures c.store-behind.ensures)
+pub returns-in_err-producer : goal.returns-in_err-producer
+returns-in_err-producer c = handed (filled_is _) _ _ c.from_residual.ensures (producer_no _ _ _ _ _ c.in_err-producer.ensures)
 
-pub returns-in-Refused-int64_at : goal.returns-in-Refused-int64_at
-returns-in-Refused-int64_at c = offset_no _ _ _ _ _ _ (ap of_number (sym c.in-Took.is) ∙ c.int64_at.ensures) _ (ap of_number (sym c.in-Refused-int64_at.is) ∙ c.int64_at-in-Took.ensures)
+pub returns-in_err-offset : goal.returns-in_err-offset
+returns-in_err-offset c = handed (filled_is _) _ _ c.from_residual-in_err-offset.ensures (offset_no _ _ _ _ _ _ c.in_ok-producer.ensures _ c.in_err-offset.ensures)
 
-pub returns-in-Refused : goal.returns-in-Refused
-returns-in-Refused c = producer_no _ _ _ _ _ (ap of_number (sym c.in-Refused.is) ∙ c.int64_at.ensures)
+pub returns : goal.returns
+returns c = pair_took _ _ _ _ _ _ c.in_ok-producer.ensures _ _ c.in_ok-offset.ensures _ _ c.store_row.ensures

@@ -1,12 +1,15 @@
 -- The throttle time and the number of topics, and the topics.
+use mathlib.Core.Path.{◌∙◌}
+use Rattle.primitives.proofs.Up.{up}
+use Rattle.fetch_response.specs.Walks.{of_walked}
 use Rattle.fetch_response.proofs.Whole.{body_took, no_front, no_topics}
 use Rattle.fetch_response.proofs.body.body_at.Goals as goal
 
-pub returns-in-Took-topics_in : goal.returns-in-Took-topics_in
-returns-in-Took-topics_in c = body_took _ _ _ _ _ _ c.front_of.ensures _ _ _ c.in-Took.is _ _ _ _ c.topics_in.ensures _ _ c.in-Took-topics_in.is
+pub returns-in_err-front : goal.returns-in_err-front
+returns-in_err-front c = up (of_walked _ _ _) _ _ c.from_residual.ensures ∙ no_front _ _ _ _ _ _ c.in_err-front.ensures
 
-pub returns-in-Refused-topics_in : goal.returns-in-Refused-topics_in
-returns-in-Refused-topics_in c = no_topics _ _ _ _ _ _ c.front_of.ensures _ _ _ c.in-Took.is _ _ _ _ c.topics_in.ensures _ c.in-Refused-topics_in.is
+pub returns-in_err-filled : goal.returns-in_err-filled
+returns-in_err-filled c = up (of_walked _ _ _) _ _ c.from_residual-in_err-filled.ensures ∙ no_topics _ _ _ _ _ _ c.in_ok-front.ensures _ c.in_err-filled.ensures
 
-pub returns-in-Refused : goal.returns-in-Refused
-returns-in-Refused c = no_front _ _ _ _ _ _ c.front_of.ensures _ c.in-Refused.is
+pub returns : goal.returns
+returns c = body_took _ _ _ _ _ _ c.in_ok-front.ensures _ _ _ _ c.in_ok-filled.ensures

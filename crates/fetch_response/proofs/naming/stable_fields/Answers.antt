@@ -1,25 +1,24 @@
 -- The last stable offset, the aborted transactions all at once, and the records.
+use mathlib.Core.Path.{◌∙◌, refl}
+use Rattle.primitives.proofs.Up.{up}
 use Rattle.body_reading.specs.Moved.{array_items}
-use Rattle.names.proofs.Ways.{array_found, array_past, array_stops, field_goes, field_stops, walk_end}
+use Rattle.names.specs.Walks.{of_sought}
+use Rattle.names.proofs.Ways.{array_found, array_out, array_past, field_goes, field_last, field_out}
 use Rattle.fetch_response.specs.Seek.{stable_shape}
 use Rattle.fetch_response.proofs.naming.stable_fields.Goals as goal
 
-pub returns-in-Stopped : goal.returns-in-Stopped
+pub returns-in_err-p : goal.returns-in_err-p
 unfolding stable_shape array_items
-returns-in-Stopped c = field_stops _ _ _ _ _ _ _ _ _ c.int64.ensures c.in-Stopped.is
+returns-in_err-p c = up (of_sought _) _ _ c.from_residual.ensures ∙ field_out _ _ _ _ _ _ _ _ _ c.int64.ensures _ c.in_err-p.ensures.value _ refl
 
-pub returns-in-Stopped-count : goal.returns-in-Stopped-count
+pub returns-in_err-aborted : goal.returns-in_err-aborted
 unfolding stable_shape array_items
-returns-in-Stopped-count c = field_goes _ _ _ _ _ _ _ _ _ c.int64.ensures _ c.in-After.is _ (array_stops _ _ _ _ _ _ _ _ _ _ _ c.count.ensures c.in-Stopped-count.is)
+returns-in_err-aborted c = up (of_sought _) _ _ c.from_residual-in_err-aborted.ensures ∙ field_goes _ _ _ _ _ _ _ _ _ c.int64.ensures _ c.in_ok-p.ensures.ok_part _ (array_out _ _ _ _ _ _ _ _ _ _ _ c.count.ensures _ c.in_err-aborted.ensures.value _ refl)
 
-pub returns-in-After-records : goal.returns-in-After-records
+pub returns-in_err-p-2 : goal.returns-in_err-p-2
 unfolding stable_shape array_items
-returns-in-After-records c = field_goes _ _ _ _ _ _ _ _ _ c.int64.ensures _ c.in-After.is _ (array_past _ _ _ _ _ _ _ _ _ _ _ c.count.ensures _ _ c.in-After-count.is _ _ c.elements.ensures _ c.in-Past.is _ (field_goes _ _ _ _ _ _ _ _ _ c.records.ensures _ c.in-After-records.is _ (walk_end _ _ _ _ _ _)))
+returns-in_err-p-2 c = up (of_sought _) _ _ c.from_residual-in_err-p-2.ensures ∙ field_goes _ _ _ _ _ _ _ _ _ c.int64.ensures _ c.in_ok-p.ensures.ok_part _ (array_found _ _ _ _ _ _ _ _ _ _ _ c.count.ensures _ c.in_ok-aborted.ensures.ok_part c.elements.new.begun _ c.in_err-p-2.ensures _ refl)
 
-pub returns-in-Stopped-records : goal.returns-in-Stopped-records
+pub returns : goal.returns
 unfolding stable_shape array_items
-returns-in-Stopped-records c = field_goes _ _ _ _ _ _ _ _ _ c.int64.ensures _ c.in-After.is _ (array_past _ _ _ _ _ _ _ _ _ _ _ c.count.ensures _ _ c.in-After-count.is _ _ c.elements.ensures _ c.in-Past.is _ (field_stops _ _ _ _ _ _ _ _ _ c.records.ensures c.in-Stopped-records.is))
-
-pub returns-in-Found : goal.returns-in-Found
-unfolding stable_shape array_items
-returns-in-Found c = field_goes _ _ _ _ _ _ _ _ _ c.int64.ensures _ c.in-After.is _ (array_found _ _ _ _ _ _ _ _ _ _ _ c.count.ensures _ _ c.in-After-count.is _ _ c.elements.ensures _ _ c.in-Found.is)
+returns c = field_goes _ _ _ _ _ _ _ _ _ c.int64.ensures _ c.in_ok-p.ensures.ok_part _ (array_past _ _ _ _ _ _ _ _ _ _ _ c.count.ensures _ c.in_ok-aborted.ensures.ok_part _ _ c.in_ok-p-2.ensures _ refl _ (field_last _ _ _ _ _ _ _ _ c.records.ensures _ c.ok_or-3.ensures.value))

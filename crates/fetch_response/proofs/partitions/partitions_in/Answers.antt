@@ -1,17 +1,15 @@
-use mathlib.Core.Path.{refl}
-use borrow.Author.Rules.{rules}
-use Rattle.body_reading.proofs.Chains.{going_done, going_start, turn_next, turn_no}
 use Rattle.fetch_response.specs.TopicWalks.{partitions_is}
+use Rattle.fetch_response.proofs.Handed.{for_done, for_next, for_no, for_start, handed}
 use Rattle.fetch_response.proofs.partitions.partitions_in.Goals as goal
 
-pub loop-left-init : goal.loop-left-init
-loop-left-init c = (going_start _ _ _ _ _, (refl, refl))
+pub loop-init : goal.loop-init
+loop-init c = for_start _ _ _ _ _
 
-pub loop-left-preserved : goal.loop-left-preserved
-loop-left-preserved c = (turn_next _ _ _ _ _ _ _ _ c.loop-left.invariant.0 c.loop-left-test.true (partitions_is _ _) _ _ c.partition_at.ensures c.in-Took.is _ (λ e. refl), (search rules, search rules))
+pub returns-in_err-filled : goal.returns-in_err-filled
+returns-in_err-filled c = handed (partitions_is _ _) _ _ c.from_residual.ensures (for_no _ _ _ _ _ _ _ _ c.loop.invariant c.loop-test.true _ c.in_err-filled.ensures)
 
-pub returns-in-Refused : goal.returns-in-Refused
-returns-in-Refused c = turn_no _ _ _ _ _ _ _ _ c.loop-left.invariant.0 c.loop-left-test.true (partitions_is _ _) _ _ c.partition_at.ensures c.in-Refused.is (λ e. refl)
+pub loop-preserved : goal.loop-preserved
+loop-preserved c = for_next _ _ _ _ _ _ _ _ c.loop.invariant c.loop-test.true _ _ c.in_ok-filled.ensures
 
 pub returns : goal.returns
-returns c = going_done _ _ _ _ _ _ _ _ c.loop-left.invariant.0 c.loop-left-test.false
+returns c = for_done _ _ _ _ _ _ _ _ c.loop.invariant c.loop-test.false

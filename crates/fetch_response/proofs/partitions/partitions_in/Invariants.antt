@@ -1,15 +1,11 @@
--- What is left to read from here is what was asked at the start. Every turn takes one from `left`, so the loop ends, if not by a refusal.
+-- What is left to read from here is what was asked at the start.
 use mathlib.Core.Bool.{false}
-use mathlib.Core.Path.{◌≡◌}
-use lib.ListN.{length}
+use Prim.Native.Nat.{◌-◌}
 use Rattle.body_reading.specs.Walk.{walk}
 use Rattle.body_reading.proofs.Chains.{Going}
 use Rattle.fetch_response.specs.TopicShapes.{partition_shape}
 use Rattle.fetch_response.specs.TopicWalks.{in_partitions}
 use Rattle.fetch_response.proofs.partitions.partitions_in.Given as goal
 
-abbrev pub invariant-loop-left : goal.invariant-loop-left
-invariant-loop-left l = Going (λ e. walk false (partition_shape l.stable) 2) l.s l.count l.p (in_partitions l.initial.partitions l.initial.aborted l.initial.marks) l.left l.next (in_partitions l.partitions l.aborted l.marks) × ((length l.partitions ≡ length l.initial.partitions) × (length l.aborted ≡ length l.initial.aborted))
-
-abbrev pub decreases-loop-left : goal.decreases-loop-left
-decreases-loop-left l = l.left
+abbrev pub invariant-loop : goal.invariant-loop
+invariant-loop l = Going (λ e. walk false (partition_shape l.stable) 2) l.s l.count l.p (in_partitions l.initial.partitions l.initial.aborted l.fn.marks) (l.count - l.counter) l.filled.next (in_partitions l.partitions l.aborted l.filled.marks)

@@ -6,7 +6,7 @@ use Rattle.layout.specs.Primitives.{w32}
 use Rattle.layout.specs.Reading.{nowhere}
 use Rattle.primitives.specs.Answers.{of_refusal}
 use Rattle.body_writing.specs.Blames.{blame_at, row_blame}
-use Rattle.body_writing.specs.declared.blames.Blamed.{Blamed}
+use Rattle.std.specs.Prelude.{Err, Ok}
 use Rattle.body_writing.proofs.Blaming.{number_here, number_next}
 use Rattle.body_writing.proofs.NamedFaults.{by_blame, no_field}
 use Rattle.frame.specs.Answers.{of_response}
@@ -18,8 +18,8 @@ returns-then-is_fieldless c = c.without_field.ensures ∙ no_field 8 _ _ _ _ (sy
 
 pub returns-then-number_fault-e : goal.returns-then-number_fault-e
 unfolding row_blame blame_at meant
-returns-then-number_fault-e c = c.blamed_by.ensures ∙ by_blame 8 _ _ _ (of_refusal c.args.e) (sym c.is_fieldless.ensures ∙ c.if-is_fieldless.false) none_yet (Blamed.Found nowhere 0) (number_here [] _ nowhere 0 none_yet (of_response c.args.header) 0 w32 _ _ c.number_fault.ensures c.if-number_fault-e.true)
+returns-then-number_fault-e c = c.blamed_by.ensures ∙ by_blame 8 _ _ _ (of_refusal c.args.e) (sym c.is_fieldless.ensures ∙ c.if-is_fieldless.false) none_yet (Err (record { row = nowhere; field = 0 })) (number_here [] _ nowhere 0 none_yet (of_response c.args.header) 0 w32 _ _ c.number_fault.ensures c.if-number_fault-e.true)
 
 pub returns : goal.returns
 unfolding row_blame blame_at meant blame
-returns c = c.without_field-2.ensures ∙ by_blame 8 _ _ _ (of_refusal c.args.e) (sym c.is_fieldless.ensures ∙ c.if-is_fieldless.false) none_yet Blamed.Past (sym (number_next [] _ nowhere 0 none_yet (of_response c.args.header) 0 w32 _ _ c.number_fault.ensures c.if-number_fault-e.false))
+returns c = c.without_field-2.ensures ∙ by_blame 8 _ _ _ (of_refusal c.args.e) (sym c.is_fieldless.ensures ∙ c.if-is_fieldless.false) none_yet (Ok tt) (sym (number_next [] _ nowhere 0 none_yet (of_response c.args.header) 0 w32 _ _ c.number_fault.ensures c.if-number_fault-e.false))

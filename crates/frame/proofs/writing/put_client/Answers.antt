@@ -9,4 +9,4 @@ pub returns-in-Null : goal.returns-in-Null
 returns-in-Null c = put_null _ _ c.in-Null.is c.null-in-Null.ensures
 
 pub returns-in-Present : goal.returns-in-Present
-returns-in-Present c = put_there _ _ c.in-Present.is _ c.part.ensures c.sized.ensures
+returns-in-Present c = put_there _ _ c.in-Present.is _ c.part-content.ensures c.sized.ensures

@@ -2,9 +2,6 @@
 use Rattle.layout.specs.Messages.Fetch as Fetch
 use Rattle.gateway.proofs.Told.{write_told}
 use Rattle.gateway.specs.Replies.{numbers}
-use Rattle.gateway_fetch.proofs.request.befrolan_write_fetch_request.Statement.{
-  statement,
-}
 use Rattle.gateway_fetch.proofs.request.befrolan_write_fetch_request.Goals as goal
 
 pub returns : goal.returns

@@ -2,9 +2,6 @@
 use Rattle.layout.specs.Messages.Fetch as Fetch
 use Rattle.gateway.proofs.Told.{prefix_told}
 use Rattle.gateway_fetch.specs.Replies.{fetch_numbers}
-use Rattle.gateway_fetch.proofs.response.befrolan_read_fetch_response.Statement.{
-  statement,
-}
 use Rattle.gateway_fetch.proofs.response.befrolan_read_fetch_response.Goals as goal
 
 pub returns : goal.returns

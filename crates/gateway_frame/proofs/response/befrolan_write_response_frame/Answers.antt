@@ -2,9 +2,6 @@
 use Rattle.layout.specs.Messages.Headers as Headers
 use Rattle.gateway.specs.Replies.{numbers}
 use Rattle.gateway_frame.proofs.Rows.{frame_written_told}
-use Rattle.gateway_frame.proofs.response.befrolan_write_response_frame.Statement.{
-  statement,
-}
 use Rattle.gateway_frame.proofs.response.befrolan_write_response_frame.Goals as goal
 
 pub returns : goal.returns

@@ -2,9 +2,6 @@
 use Rattle.layout.specs.Messages.Metadata as Meta
 use Rattle.gateway.proofs.Told.{write_told}
 use Rattle.gateway.specs.Replies.{numbers}
-use Rattle.gateway_metadata.proofs.request.befrolan_write_metadata_request.Statement.{
-  statement,
-}
 use Rattle.gateway_metadata.proofs.request.befrolan_write_metadata_request.Goals as goal
 
 pub returns : goal.returns

@@ -2,9 +2,6 @@
 use Rattle.layout.specs.Messages.Metadata as Meta
 use Rattle.gateway.proofs.Told.{prefix_told}
 use Rattle.gateway_metadata.specs.Replies.{metadata_numbers}
-use Rattle.gateway_metadata.proofs.response.befrolan_read_metadata_response.Statement.{
-  statement,
-}
 use Rattle.gateway_metadata.proofs.response.befrolan_read_metadata_response.Goals as goal
 
 pub returns : goal.returns

@@ -5,18 +5,18 @@ use Rattle.gateway_primitives.proofs.ByKind.{read_by}
 use Rattle.gateway_primitives.specs.Kinds.{flag_cells, integer_cells, number_cells, read_kind, read_of}
 use Rattle.gateway_primitives.proofs.read_kind.numbers.Goals as goal
 
-pub returns-then-kind-eq4 : goal.returns-then-kind-eq4
+pub returns-in-4 : goal.returns-in-4
 unfolding read_kind read_of
-returns-then-kind-eq4 c = read_by _ 4 c.if-kind-eq4.true _ _ flag_cells _ _ c.boolean.ensures refl c.of_flag.ensures
+returns-in-4 c = read_by _ 4 c.in-4.is _ _ flag_cells _ _ c.boolean.ensures refl c.of_flag.ensures
 
-pub returns-then-kind-eq5 : goal.returns-then-kind-eq5
+pub returns-in-5 : goal.returns-in-5
 unfolding read_kind read_of
-returns-then-kind-eq5 c = read_by _ 5 c.if-kind-eq5.true _ _ number_cells _ _ c.unsigned_varint.ensures refl c.of_number.ensures
+returns-in-5 c = read_by _ 5 c.in-5.is _ _ number_cells _ _ c.unsigned_varint.ensures refl c.of_number.ensures
 
-pub returns-then-kind-eq6 : goal.returns-then-kind-eq6
+pub returns-in-6 : goal.returns-in-6
 unfolding read_kind read_of
-returns-then-kind-eq6 c = read_by _ 6 c.if-kind-eq6.true _ _ integer_cells _ _ c.varint.ensures refl c.of_integer.ensures
+returns-in-6 c = read_by _ 6 c.in-6.is _ _ integer_cells _ _ c.varint.ensures refl c.of_integer.ensures
 
-pub returns : goal.returns
+pub returns-in_default : goal.returns-in_default
 unfolding read_kind read_of
-returns c = read_by c.args.kind 7 (omega arith) _ _ integer_cells _ _ c.varlong.ensures refl c.of_integer-2.ensures
+returns-in_default c = read_by c.args.kind 7 (omega arith) _ _ integer_cells _ _ c.varlong.ensures refl c.of_integer-in_default.ensures

@@ -1,5 +1,4 @@
 -- Before each turn no name so far has a fault, and those left decide.
-use Prim.Native.Nat.{◌-◌}
 use Rattle.metadata_request.specs.Shapes.{name_shape}
 use Rattle.body_writing.specs.Writes.{row_fault}
 use Rattle.body_writing.proofs.Turns.{Clean}
@@ -7,6 +6,3 @@ use Rattle.metadata_request.proofs.judge.names_fault.Given as goal
 
 abbrev pub invariant-loop-i : goal.invariant-loop-i
 invariant-loop-i l = Clean (row_fault l.lent name_shape) 2 l.topics l.i
-
-abbrev pub decreases-loop-i : goal.decreases-loop-i
-decreases-loop-i l = l.n - l.i

@@ -1,5 +1,4 @@
 use mathlib.Core.Path.{refl}
-use Prim.Native.Nat.{◌-◌}
 use Rattle.body_writing.proofs.Blaming.{only_here, only_past, searched_end, searched_found, searched_more, searched_start}
 use borrow.Author.Rules.{rules}
 use Rattle.metadata_request.proofs.naming.names.Goals as goal

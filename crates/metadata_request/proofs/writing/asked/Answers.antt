@@ -3,8 +3,8 @@ use Rattle.metadata_request.proofs.Request.{asked_names, asked_null}
 use borrow.Author.Rules.{rules}
 use Rattle.metadata_request.proofs.writing.asked.Goals as goal
 
-pub returns-then-count-eq18446744073709551615 : goal.returns-then-count-eq18446744073709551615
-returns-then-count-eq18446744073709551615 c = search (rules, asked_null)
+pub returns-then-count-eq-MINUS_ONE : goal.returns-then-count-eq-MINUS_ONE
+returns-then-count-eq-MINUS_ONE c = search (rules, asked_null)
 
 pub returns : goal.returns
 returns c = search (rules, asked_names)

@@ -2,8 +2,8 @@
 use Rattle.metadata_request.proofs.Request.{creation_lacking, creation_there}
 use Rattle.metadata_request.proofs.writing.creation.Goals as goal
 
-pub returns-then-has : goal.returns-then-has
-returns-then-has c = creation_there _ _ c.if-has.true c.boolean.ensures
+pub returns-in-Some : goal.returns-in-Some
+returns-in-Some c = creation_there _ c.in-Some.is c.boolean.ensures
 
-pub returns : goal.returns
-returns c = creation_lacking _ c.args.flag c.if-has.false _
+pub returns-in-None : goal.returns-in-None
+returns-in-None c = creation_lacking _ c.in-None.is _

@@ -1,5 +1,4 @@
 -- Before each turn the first i names stand there.
-use Prim.Native.Nat.{◌-◌}
 use Rattle.metadata_request.specs.Shapes.{name_shape}
 use Rattle.body_writing.specs.Writes.{row_bytes}
 use Rattle.body_writing.proofs.Turns.{Walked}
@@ -7,6 +6,3 @@ use Rattle.metadata_request.proofs.writing.names.Given as goal
 
 abbrev pub invariant-loop-i : goal.invariant-loop-i
 invariant-loop-i l = Walked (row_bytes l.lent name_shape) 2 l.topics l.initial.out l.i l.done l.out
-
-abbrev pub decreases-loop-i : goal.decreases-loop-i
-decreases-loop-i l = l.n - l.i

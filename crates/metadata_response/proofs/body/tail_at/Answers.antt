@@ -1,17 +1,18 @@
 -- Cluster and controller, the number of topics, and the topics.
-use mathlib.Core.Path.{◌∙◌, ap, sym}
-use Rattle.primitives.specs.Answers.{of_number}
+use mathlib.Core.Path.{refl}
+use Rattle.metadata_response.specs.Walks.{of_tail}
 use Rattle.metadata_response.proofs.Around.{no_middle, no_topics, tail_took, topics_bad}
+use Rattle.body_reading.proofs.Turns.{runs_up}
 use Rattle.metadata_response.proofs.body.tail_at.Goals as goal
 
-pub returns-in-Took-topics_in : goal.returns-in-Took-topics_in
-returns-in-Took-topics_in c = tail_took _ _ _ _ _ _ _ _ c.middle_at.ensures _ _ _ c.in-Took.is _ _ (ap of_number (sym c.in-Took-items_at.is) ∙ c.items_at.ensures) _ _ _ _ _ c.topics_in.ensures _ _ c.in-Took-topics_in.is
+pub returns-in_err-middle : goal.returns-in_err-middle
+returns-in_err-middle c = runs_up (of_tail _ _ _ _) _ _ c.from_residual.ensures (no_middle _ _ _ _ _ _ _ _ c.in_err-middle.ensures)
 
-pub returns-in-Refused-topics_in : goal.returns-in-Refused-topics_in
-returns-in-Refused-topics_in c = topics_bad _ _ _ _ _ _ _ _ c.middle_at.ensures _ _ _ c.in-Took.is _ _ (ap of_number (sym c.in-Took-items_at.is) ∙ c.items_at.ensures) _ _ _ _ _ c.topics_in.ensures _ c.in-Refused-topics_in.is
+pub returns-in_err-count : goal.returns-in_err-count
+returns-in_err-count c = runs_up (of_tail _ _ _ _) _ _ c.from_residual-in_err-count.ensures (no_topics _ _ _ _ _ _ _ c.in_ok-middle.middle.value _ c.in_ok-middle.ensures _ c.in_err-count.ensures)
 
-pub returns-in-Refused-items_at : goal.returns-in-Refused-items_at
-returns-in-Refused-items_at c = no_topics _ _ _ _ _ _ _ _ c.middle_at.ensures _ _ _ c.in-Took.is _ (ap of_number (sym c.in-Refused-items_at.is) ∙ c.items_at.ensures)
+pub returns-in_err-rows : goal.returns-in_err-rows
+returns-in_err-rows c = runs_up (of_tail _ _ _ _) _ _ c.from_residual-in_err-rows.ensures (topics_bad _ _ _ _ _ _ _ c.in_ok-middle.middle.value _ c.in_ok-middle.ensures _ _ c.in_ok-count.ensures _ c.in_err-rows.ensures _ (λ e. refl))
 
-pub returns-in-Refused : goal.returns-in-Refused
-returns-in-Refused c = no_middle _ _ _ _ _ _ _ _ c.middle_at.ensures _ c.in-Refused.is
+pub returns : goal.returns
+returns c = tail_took _ _ _ _ _ _ _ c.in_ok-middle.middle.value _ c.in_ok-middle.ensures _ _ c.in_ok-count.ensures _ c.in_ok-rows.ensures _ _ _ _ c.in_ok-rows.rows (λ e. refl)

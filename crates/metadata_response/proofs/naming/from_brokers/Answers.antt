@@ -1,16 +1,20 @@
 -- The brokers, and what follows them.
+use mathlib.Core.Path.{◌∙◌, refl}
+use Rattle.primitives.proofs.Up.{up}
 use Rattle.body_reading.specs.Moved.{array_items}
-use Rattle.names.proofs.Ways.{array_found, array_past, array_stops, next_field}
+use Rattle.names.specs.Walks.{of_sought}
+use Rattle.names.proofs.Ways.{array_found, array_out, array_past, next_field}
+use borrow.Author.Rules.{rules}
 use Rattle.metadata_response.proofs.naming.from_brokers.Goals as goal
 
-pub returns-in-Stopped : goal.returns-in-Stopped
+pub returns-in_err-all : goal.returns-in_err-all
 unfolding array_items
-returns-in-Stopped c = array_stops _ _ _ _ _ _ _ _ _ _ _ c.count.ensures c.in-Stopped.is
+returns-in_err-all c = up (of_sought _) _ _ c.from_residual.ensures ∙ array_out _ _ _ _ _ _ _ _ _ _ _ c.count.ensures _ c.in_err-all.ensures.value _ refl
 
-pub returns-in-Past : goal.returns-in-Past
+pub returns-in_err-p : goal.returns-in_err-p
 unfolding array_items
-returns-in-Past c = array_past _ _ _ _ _ _ _ _ _ _ _ c.count.ensures _ _ c.in-After.is _ _ c.brokers.ensures _ c.in-Past.is _ (next_field _ _ _ _ _ _ _ _ c.tail.ensures)
+returns-in_err-p c = up (of_sought _) _ _ c.from_residual-in_err-p.ensures ∙ array_found _ _ _ _ _ _ _ _ _ _ _ c.count.ensures _ c.in_ok-all.ensures.ok_part c.rows.new.begun _ (c.in_err-p.ensures _ _ _ (record { law = λ n row b r d h. search rules })) _ refl
 
-pub returns-in-Found : goal.returns-in-Found
+pub returns : goal.returns
 unfolding array_items
-returns-in-Found c = array_found _ _ _ _ _ _ _ _ _ _ _ c.count.ensures _ _ c.in-After.is _ _ c.brokers.ensures _ _ c.in-Found.is
+returns c = array_past _ _ _ _ _ _ _ _ _ _ _ c.count.ensures _ c.in_ok-all.ensures.ok_part _ _ (c.in_ok-p.ensures _ _ _ (record { law = λ n row b r d h. search rules })) _ refl _ (next_field _ _ _ _ _ _ _ _ c.tail.ensures)

@@ -1,12 +1,16 @@
 -- The partitions end the row of their topic.
+use mathlib.Core.Path.{◌∙◌, refl}
+use Rattle.primitives.proofs.Up.{up}
 use Rattle.body_reading.specs.Moved.{array_items}
-use Rattle.names.proofs.Ways.{array_last, array_stops}
+use Rattle.names.specs.Walks.{of_sought}
+use Rattle.names.proofs.Ways.{array_last, array_out}
+use borrow.Author.Rules.{rules}
 use Rattle.metadata_response.proofs.naming.partition_array.Goals as goal
 
-pub returns-in-After : goal.returns-in-After
+pub returns-in_err-all : goal.returns-in_err-all
 unfolding array_items
-returns-in-After c = array_last _ _ _ _ _ _ _ _ _ _ c.count.ensures _ _ c.in-After.is _ c.partitions.ensures
+returns-in_err-all c = up (of_sought _) _ _ c.from_residual.ensures ∙ array_out _ _ _ _ _ _ _ _ _ _ _ c.count.ensures _ c.in_err-all.ensures.value _ refl
 
-pub returns-in-Stopped : goal.returns-in-Stopped
+pub returns : goal.returns
 unfolding array_items
-returns-in-Stopped c = array_stops _ _ _ _ _ _ _ _ _ _ _ c.count.ensures c.in-Stopped.is
+returns c = array_last _ _ _ _ _ _ _ _ _ _ c.count.ensures _ c.in_ok-all.ensures.ok_part _ (c.rows.ensures _ _ _ (record { law = λ n row b r d h. search rules }))

@@ -1,17 +1,16 @@
 use mathlib.Core.Path.{refl}
-use borrow.Author.Rules.{rules}
-use Rattle.body_reading.proofs.Chains.{going_done, going_start, turn_next, turn_no}
-use Rattle.metadata_response.specs.TopicWalks.{partitions_is}
+use Rattle.metadata_response.specs.TopicWalks.{in_partitions, partitions_is}
+use Rattle.body_reading.proofs.Turns.{runs_up, turned_end, turned_next, turned_no, turned_start}
 use Rattle.metadata_response.proofs.partitions.partitions_in.Goals as goal
 
-pub loop-left-init : goal.loop-left-init
-loop-left-init c = (going_start _ _ _ _ _, (refl, (refl, refl)))
+pub loop-init : goal.loop-init
+loop-init c = turned_start _ _ _ _ _
 
-pub loop-left-preserved : goal.loop-left-preserved
-loop-left-preserved c = (turn_next _ _ _ _ _ _ _ _ c.loop-left.invariant.0 c.loop-left-test.true (partitions_is _ _ _) _ _ c.partition_at.ensures c.in-Took.is _ (λ e. refl), (search rules, (search rules, search rules)))
+pub returns-in_err-all : goal.returns-in_err-all
+returns-in_err-all c = runs_up (partitions_is _ _ _) _ _ c.from_residual.ensures (turned_no _ _ _ _ _ _ _ _ c.loop.invariant c.loop-test.true _ c.in_err-all.ensures (λ e. refl))
 
-pub returns-in-Refused : goal.returns-in-Refused
-returns-in-Refused c = turn_no _ _ _ _ _ _ _ _ c.loop-left.invariant.0 c.loop-left-test.true (partitions_is _ _ _) _ _ c.partition_at.ensures c.in-Refused.is (λ e. refl)
+pub loop-preserved : goal.loop-preserved
+loop-preserved c = turned_next _ _ _ _ _ _ _ _ c.loop.invariant c.loop-test.true _ c.in_ok-all.ensures (in_partitions _ _ _ _) (λ e. refl)
 
 pub returns : goal.returns
-returns c = going_done _ _ _ _ _ _ _ _ c.loop-left.invariant.0 c.loop-left-test.false
+returns c = turned_end _ _ _ _ _ _ _ _ c.loop.invariant c.loop-test.false

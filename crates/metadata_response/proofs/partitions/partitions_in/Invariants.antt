@@ -1,15 +1,10 @@
--- What is left to read from here is what was asked at the start. Every turn takes one from `left`, so the loop ends, if not by a refusal.
+-- What is left to read from here is what was asked at the start.
 use mathlib.Core.Bool.{false}
-use mathlib.Core.Path.{◌≡◌}
-use lib.ListN.{length}
 use Rattle.body_reading.specs.Walk.{walk}
-use Rattle.body_reading.proofs.Chains.{Going}
+use Rattle.body_reading.proofs.Turns.{Turned}
 use Rattle.metadata_response.specs.TopicShapes.{partition_shape}
 use Rattle.metadata_response.specs.TopicWalks.{in_partitions}
 use Rattle.metadata_response.proofs.partitions.partitions_in.Given as goal
 
-abbrev pub invariant-loop-left : goal.invariant-loop-left
-invariant-loop-left l = Going (λ e. walk false partition_shape 3) l.s l.count l.p (in_partitions l.initial.partitions l.initial.replicas l.initial.synced l.initial.marks) l.left l.next (in_partitions l.partitions l.replicas l.synced l.marks) × ((length l.partitions ≡ length l.initial.partitions) × ((length l.replicas ≡ length l.initial.replicas) × (length l.synced ≡ length l.initial.synced)))
-
-abbrev pub decreases-loop-left : goal.decreases-loop-left
-decreases-loop-left l = l.left
+abbrev pub invariant-loop : goal.invariant-loop
+invariant-loop l = Turned (λ e. walk false partition_shape 3) l.s l.count l.p (in_partitions l.initial.partitions l.initial.replicas l.initial.synced l.initial.all.value) l.counter l.all.next (in_partitions l.partitions l.replicas l.synced l.all.value)

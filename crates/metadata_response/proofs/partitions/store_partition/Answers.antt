@@ -6,8 +6,8 @@ use Rattle.metadata_response.proofs.partitions.store_partition.Goals as goal
 pub returns-then-table-mark : goal.returns-then-table-mark
 returns-then-table-mark c = row_out _ _ _ _ _ _ _ _ _ c.skip4.ensures (omega arith) c.store.ensures
 
-pub returns-in-Took : goal.returns-in-Took
-returns-in-Took c = row_in _ _ _ _ _ _ _ _ _ c.partition_row.ensures _ _ _ _ c.in-Took.is c.store5.ensures
+pub returns-in-Ok : goal.returns-in-Ok
+returns-in-Ok c = row_in _ _ _ _ _ _ _ _ _ _ _ _ c.in-Ok.ensures c.store_row.ensures
 
-pub returns-in-Refused : goal.returns-in-Refused
-returns-in-Refused c = row_none _ _ _ _ _ _ _ _ _ c.partition_row.ensures _ c.in-Refused.is
+pub returns-in-Err : goal.returns-in-Err
+returns-in-Err c = row_none _ _ _ _ _ _ _ _ _ c.in-Err.ensures

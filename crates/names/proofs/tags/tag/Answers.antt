@@ -1,12 +1,13 @@
--- A tag and its data are two fields.
-use Rattle.names.proofs.Ways.{field_goes, field_stops, walk_end}
+-- A tag and its data are two fields, whatever the row.
+use Rattle.std.proofs.Common.{sym, ap, ◌∙◌}
+use Rattle.std.specs.Prelude.{Err}
+use Rattle.primitives.proofs.Up.{is_err_of}
+use Rattle.names.proofs.AtOnce.{in_data, in_tag}
+use Rattle.names.proofs.Ways.{stopped, went}
 use Rattle.names.proofs.tags.tag.Goals as goal
 
-pub returns-in-Stopped : goal.returns-in-Stopped
-returns-in-Stopped c = record { law = λ k. field_stops _ _ _ k _ _ _ _ _ c.varint.ensures c.in-Stopped.is }
+pub returns-in_err-n : goal.returns-in_err-n
+returns-in_err-n c = let h = stopped _ _ _ (sym c.ok_or.ensures.value ∙ c.in_err-n.was) in in_tag _ _ _ _ c.varint.ensures h.0 _ (is_err_of _ _ c.from_residual.ensures ∙ ap Err h.1)
 
-pub returns-in-After-data : goal.returns-in-After-data
-returns-in-After-data c = record { law = λ k. field_goes _ _ _ k _ _ _ _ _ c.varint.ensures _ c.in-After.is _ (field_goes _ _ _ k _ _ _ _ _ c.data.ensures _ c.in-After-data.is _ (walk_end _ _ _ k _ _)) }
-
-pub returns-in-Stopped-data : goal.returns-in-Stopped-data
-returns-in-Stopped-data c = record { law = λ k. field_goes _ _ _ k _ _ _ _ _ c.varint.ensures _ c.in-After.is _ (field_stops _ _ _ k _ _ _ _ _ c.data.ensures c.in-Stopped-data.is) }
+pub returns : goal.returns
+returns c = in_data _ _ _ _ c.varint.ensures _ (went _ _ _ (sym c.ok_or.ensures.value ∙ c.in_ok-n.was)) _ c.data.ensures _ c.ok_or-2.ensures.value

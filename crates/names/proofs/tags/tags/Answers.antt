@@ -1,15 +1,15 @@
 use Rattle.std.proofs.Common.{refl, rules}
-use Rattle.names.proofs.Ways.{flat_found, flat_next, turns_done}
+use Rattle.names.proofs.AtOnce.{tags_done, tags_found, tags_next, tags_start}
 use Rattle.names.proofs.tags.tags.Goals as goal
 
-pub loop-left-init : goal.loop-left-init
-loop-left-init c = (refl, refl)
+pub loop-passed-init : goal.loop-passed-init
+loop-passed-init c = (tags_start _ _ _ _ _ _, refl)
 
-pub loop-left-preserved : goal.loop-left-preserved
-loop-left-preserved c = (search (rules, flat_next), search rules)
+pub returns-in-Err : goal.returns-in-Err
+returns-in-Err c = search (rules, tags_found)
 
-pub returns-in-Found : goal.returns-in-Found
-returns-in-Found c = search (rules, flat_found)
+pub loop-passed-preserved : goal.loop-passed-preserved
+loop-passed-preserved c = (search (rules, tags_next), search rules)
 
 pub returns : goal.returns
-returns c = search (rules, turns_done)
+returns c = search (rules, tags_done)

@@ -4,4 +4,4 @@ use Rattle.primitives.proofs.Behind.{length_is}
 use Rattle.primitives.proofs.lengths.length16.Goals as goal
 
 pub returns : goal.returns
-returns c = length_is w16 kept _ c.uint16.result _ c.uint16.ensures c.length.ensures
+returns c = length_is w16 kept _ c.uint.result _ c.uint.ensures c.length.ensures

@@ -4,4 +4,4 @@ use Rattle.primitives.proofs.Behind.{length_is}
 use Rattle.primitives.proofs.lengths.length32.Goals as goal
 
 pub returns : goal.returns
-returns c = length_is w32 kept _ c.uint32.result _ c.uint32.ensures c.length.ensures
+returns c = length_is w32 kept _ c.uint.result _ c.uint.ensures c.length.ensures

@@ -1,11 +1,6 @@
--- Eight bytes are the cell, or they end.
-use Rattle.layout.specs.Primitives.{w64}
-use Rattle.primitives.proofs.Cells.{cell_short, cell_whole}
-use borrow.Author.Rules.{rules}
+-- Eight bytes are the cell.
+use Rattle.primitives.proofs.Cells.{cell_64}
 use Rattle.primitives.proofs.numbers.int64.Goals as goal
 
-pub returns-then-s-lt8 : goal.returns-then-s-lt8
-returns-then-s-lt8 c = cell_short w64 _ _ c.at.ensures (search rules)
-
 pub returns : goal.returns
-returns c = cell_whole _ _ (search rules) c.eight.ensures (search rules)
+returns c = cell_64 _ c.shared_slice_known-1.given c.uint.result c.uint.ensures

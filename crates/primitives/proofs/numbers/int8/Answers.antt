@@ -5,7 +5,7 @@ use Rattle.primitives.proofs.Cells.{cell_extended, int_below}
 use Rattle.primitives.proofs.numbers.int8.Goals as goal
 
 pub extended-requires : goal.extended-requires
-extended-requires c = (int_below w8 _ c.shared_slice_known-1.given c.uint8.result c.uint8.ensures _ (omega arith), omega arith)
+extended-requires c = (int_below w8 _ c.shared_slice_known-1.given c.uint.result c.uint.ensures _ (omega arith), omega arith)
 
 pub returns : goal.returns
-returns c = cell_extended w8 _ c.shared_slice_known-1.given c.uint8.result c.uint8.ensures _ c.extended.ensures
+returns c = cell_extended w8 _ c.shared_slice_known-1.given c.uint.result c.uint.ensures _ c.extended.ensures

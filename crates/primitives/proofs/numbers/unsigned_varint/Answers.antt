@@ -1,5 +1,6 @@
-use mathlib.Core.Path.{◌∙◌}
-use Prim.Native.Nat.{◌%◌, ◌-◌}
+use mathlib.Core.Path.{◌∙◌, ◌≡◌, ap, sym}
+use lib.ListN.{get_or}
+use Prim.Native.Nat.{◌%◌, ℕ}
 use native.Mathlib.Omega.{arith}
 use Rattle.primitives.proofs.Varint.{again, below_10, ended, narrow, room, short, start, tenth_is}
 use borrow.Author.Rules.{rules}
@@ -32,11 +33,11 @@ overflow_mul-weight c = let h = narrow _ _ _ _ _ (omega arith) c.loop-p.invarian
 pub loop-p-preserved : goal.loop-p-preserved
 loop-p-preserved c = (omega arith, again _ _ _ _ _ c.wide-b.ensures.0 c.if-s-p.false _ (omega arith) c.loop-p.invariant.1 c.if-b-lt128.false _ (omega arith))
 
-pub returns-then-s-p-2 : goal.returns-then-s-p-2
-returns-then-s-p-2 c = short _ _ _ _ _ _ c.bytes_end-then-s-p-2.ensures c.loop-p.invariant.1 c.if-s-p-2.true
+pub returns-then-s-le9 : goal.returns-then-s-le9
+returns-then-s-le9 c = short _ _ _ _ _ _ c.bytes_end-then-s-le9.ensures c.loop-p.invariant.1 (omega arith)
 
 pub tenth-requires : goal.tenth-requires
 tenth-requires c = below_10 _ _ _ _ _ (omega arith) c.loop-p.invariant.1
 
 pub returns : goal.returns
-returns c = c.tenth.ensures ∙ tenth_is _ _ _ _ _ c.wide.ensures.0 c.if-s-p-2.false _ (omega arith) c.loop-p.invariant.1 (omega arith)
+returns c = let e : c.loop-p.p ≡ 9 = omega arith in c.tenth.ensures ∙ tenth_is _ _ _ _ _ (c.wide.ensures.0 ∙ ap (λ (k : ℕ). get_or c.args.s.now k 0) (sym e)) (omega arith) _ (omega arith) c.loop-p.invariant.1 e

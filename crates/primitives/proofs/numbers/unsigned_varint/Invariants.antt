@@ -5,6 +5,3 @@ use Rattle.primitives.proofs.numbers.unsigned_varint.Given as goal
 
 abbrev pub invariant-loop-p : goal.invariant-loop-p
 invariant-loop-p l = (l.p ≤ 9) × Along l.s (9 - l.p) l.weight l.value l.p
-
-abbrev pub decreases-loop-p : goal.decreases-loop-p
-decreases-loop-p l = 9 - l.p

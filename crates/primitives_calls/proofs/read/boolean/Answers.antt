@@ -1,10 +1,12 @@
+use mathlib.Core.Path.{◌∙◌}
 use Rattle.layout.specs.Primitives.{flag}
-use Rattle.primitives.proofs.Alone.{alone_long, alone_is}
-use borrow.Author.Rules.{rules}
+use Rattle.primitives.specs.Answers.{of_flag}
+use Rattle.primitives.proofs.Alone.{alone_is, alone_long}
+use Rattle.primitives.proofs.Up.{up}
 use Rattle.primitives_calls.proofs.read.boolean.Goals as goal
 
-pub returns-then-msg-gt-MOST : goal.returns-then-msg-gt-MOST
-returns-then-msg-gt-MOST c = alone_long flag _ _ c.at.ensures (search rules)
+pub returns-in_err-sized : goal.returns-in_err-sized
+returns-in_err-sized c = up of_flag _ _ c.from_residual.ensures ∙ alone_long flag _ _ c.in_err-sized.ensures.refusal c.in_err-sized.ensures.err
 
 pub returns : goal.returns
-returns c = alone_is flag _ (search rules) _ c.boolean.ensures
+returns c = alone_is flag _ c.in_ok-sized.ensures.ok _ c.boolean.ensures

@@ -1,13 +1,15 @@
 use mathlib.Core.Bool.{false}
+use mathlib.Core.Path.{◌∙◌}
 use Rattle.layout.specs.Primitives.{compact, never}
 use Rattle.layout.specs.Rows.{text}
 use Rattle.layout.specs.Read.{by_place, read_basic}
-use Rattle.primitives.proofs.Alone.{alone_long, alone_is}
-use borrow.Author.Rules.{rules}
+use Rattle.primitives.specs.Parts.{of_part}
+use Rattle.primitives.proofs.Alone.{alone_is, alone_long}
+use Rattle.primitives.proofs.Up.{up}
 use Rattle.primitives_calls.proofs.read.compact_string.Goals as goal
 
-pub returns-then-msg-gt-MOST : goal.returns-then-msg-gt-MOST
-returns-then-msg-gt-MOST c = alone_long (read_basic (by_place false) (text (compact never))) _ _ c.at.ensures (search rules)
+pub returns-in_err-sized : goal.returns-in_err-sized
+returns-in_err-sized c = up of_part _ _ c.from_residual.ensures ∙ alone_long (read_basic (by_place false) (text (compact never))) _ _ c.in_err-sized.ensures.refusal c.in_err-sized.ensures.err
 
 pub returns : goal.returns
-returns c = alone_is (read_basic (by_place false) (text (compact never))) _ (search rules) _ c.compact_string.ensures
+returns c = alone_is (read_basic (by_place false) (text (compact never))) _ c.in_ok-sized.ensures.ok _ c.compact_string.ensures

@@ -1,15 +1,15 @@
-use mathlib.Core.Path.{◌∙◌, ap, refl}
 use mathlib.Core.Bool.{false}
+use mathlib.Core.Path.{◌∙◌, ap, refl}
 use Rattle.layout.specs.Primitives.{fixed, kept, w32}
 use Rattle.layout.specs.Rows.{blob}
 use Rattle.layout.specs.Read.{by_place, read_basic}
-use Rattle.primitives.specs.Parts.{there}
-use Rattle.primitives.proofs.Alone.{alone_long, alone_is}
-use borrow.Author.Rules.{rules}
+use Rattle.primitives.specs.Parts.{of_nullable, there}
+use Rattle.primitives.proofs.Alone.{alone_is, alone_long}
+use Rattle.primitives.proofs.Up.{up}
 use Rattle.primitives_calls.proofs.read.nullable_bytes.Goals as goal
 
-pub returns-then-msg-gt-MOST : goal.returns-then-msg-gt-MOST
-returns-then-msg-gt-MOST c = ap there (alone_long (read_basic (by_place false) (blob (fixed w32 kept))) _ _ c.at.ensures (search rules))
+pub returns-in_err-sized : goal.returns-in_err-sized
+returns-in_err-sized c = up of_nullable _ _ c.from_residual.ensures ∙ ap there (alone_long (read_basic (by_place false) (blob (fixed w32 kept))) _ _ c.in_err-sized.ensures.refusal c.in_err-sized.ensures.err)
 
 pub returns : goal.returns
-returns c = c.nullable_bytes.ensures ∙ ap there (alone_is (read_basic (by_place false) (blob (fixed w32 kept))) _ (search rules) _ refl)
+returns c = c.nullable_bytes.ensures ∙ ap there (alone_is (read_basic (by_place false) (blob (fixed w32 kept))) _ c.in_ok-sized.ensures.ok _ refl)

@@ -1,9 +1,14 @@
 -- What the varint carries, judged by the size.
 use mathlib.Core.Path.{◌∙◌}
 use Rattle.layout.specs.Primitives.{varlong}
-use Rattle.primitives.proofs.Alone.{alone_sized}
+use Rattle.primitives.specs.Answers.{of_integer}
+use Rattle.primitives.proofs.Alone.{alone_is, alone_long}
 use Rattle.primitives.proofs.Varint.{varlong_is}
+use Rattle.primitives.proofs.Up.{up}
 use Rattle.primitives_calls.proofs.read.varlong.Goals as goal
 
+pub returns-in_err-sized : goal.returns-in_err-sized
+returns-in_err-sized c = up of_integer _ _ c.from_residual.ensures ∙ alone_long varlong _ _ c.in_err-sized.ensures.refusal c.in_err-sized.ensures.err
+
 pub returns : goal.returns
-returns c = alone_sized varlong _ _ _ c.integer.ensures (c.carried.ensures ∙ varlong_is _ c.unsigned_varint.result c.unsigned_varint.ensures)
+returns c = alone_is varlong _ c.in_ok-sized.ensures.ok _ (c.integer.ensures ∙ c.carried.ensures ∙ varlong_is _ c.unsigned_varint.result c.unsigned_varint.ensures)

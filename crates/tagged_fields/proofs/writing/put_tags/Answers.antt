@@ -1,5 +1,4 @@
 use borrow.Author.Rules.{rules}
-use Prim.Native.Nat.{◌-◌}
 use Rattle.body_writing.proofs.Turns.{walked_end, walked_more, walked_start}
 use Rattle.body_writing.specs.Writes.{rows_bytes}
 use Rattle.tagged_fields.proofs.writing.put_tags.Goals as goal

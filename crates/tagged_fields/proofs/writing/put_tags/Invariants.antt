@@ -1,5 +1,4 @@
 -- Before each turn the first i rows stand there.
-use Prim.Native.Nat.{◌-◌}
 use Rattle.body_writing.proofs.Turns.{Walked}
 use Rattle.body_reading.specs.Tagged.{tag_shape}
 use Rattle.body_writing.specs.Writes.{row_bytes}
@@ -7,6 +6,3 @@ use Rattle.tagged_fields.proofs.writing.put_tags.Given as goal
 
 abbrev pub invariant-loop-i : goal.invariant-loop-i
 invariant-loop-i l = Walked (row_bytes l.lent tag_shape) 3 l.table l.initial.out l.i l.done l.out
-
-abbrev pub decreases-loop-i : goal.decreases-loop-i
-decreases-loop-i l = l.n - l.i

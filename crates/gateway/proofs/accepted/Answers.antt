@@ -1,6 +1,0 @@
--- The four numbers, as they stand.
-use mathlib.Core.Path.{refl}
-use Rattle.gateway.proofs.accepted.Goals as goal
-
-pub returns : goal.returns
-returns c = refl

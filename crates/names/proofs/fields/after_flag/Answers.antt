@@ -1,8 +1,0 @@
--- Each case of the enum has its end in the definition.
-use Rattle.std.proofs.Common.{sym, ap, ◌∙◌}
-use Rattle.primitives.specs.Answers.{of_flag}
-use Rattle.names.specs.Walks.{extent, up_to}
-use Rattle.names.proofs.fields.after_flag.Goals as goal
-
-pub returns-in-Took : goal.returns-in-Took
-returns-in-Took c = c.after.ensures ∙ sym (ap (λ x. up_to c.args.q (extent (of_flag x))) c.in-Took.is)
