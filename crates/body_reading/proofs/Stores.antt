@@ -61,6 +61,14 @@ store_skip : (l : List ℕ) (k c : ℕ) (cs : List ℕ) → length l ≤ k → s
 unfolding store put
 store_skip l k c cs h = ap (λ m. store (tab m (step k)) cs) (set_out l k c h)
 
+-- a row of cells, passed over where there is room for none and the mark does not stop
+pub store_past : (l : List ℕ) (cs : List ℕ) (k : ℕ) → length l ≤ k → k + length cs ≤ limit → tab l (k + length cs) ≡ store (tab l k) cs
+unfolding store
+store_past l [] k h b = ap (tab l) (add-zero k)
+store_past l (c ∷ cs) k h b =
+    let n : k + suc (length cs) ≡ (k + 1) + length cs = omega arith in
+    ap (tab l) n ∙ store_past l cs (k + 1) (omega arith) (omega arith) ∙ ap (λ m. store (tab l m) cs) (step_up k (omega arith)) ∙ sym (store_skip l k c cs h)
+
 -- a row of four cells, passed over where there is room for none
 module _ (l : List ℕ) (k a b c d : ℕ) where
   pub four_out : (n : ℕ) → n ≡ step (step (step (step k))) → length l ≤ k → tab l n ≡ store (tab l k) (a ∷ b ∷ c ∷ d ∷ [])

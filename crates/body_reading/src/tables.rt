@@ -50,12 +50,16 @@ fn store_all<const N: usize>(table: &mut [u64], mark: usize, row: [u64; N]) -> u
     mark + N
 }
 
-// A row of cells. Most have room, and then it is asked for once.
+// A row of cells. Mostly all of them have room, or none has, as in a measure: each is asked for once.
 pub fn store_row<const N: usize>(table: &mut [u64], mark: usize, row: [u64; N]) -> usize
     ensures { tab table.new result ≡ store (tab table.old mark) row.entry }
 {
-    if mark < table.len() && N <= table.len() - mark {
-        return store_all(table, mark, row);
+    if mark < table.len() {
+        if N <= table.len() - mark {
+            return store_all(table, mark, row);
+        }
+    } else if N <= LIMIT && mark <= LIMIT - N {
+        return mark + N;
     }
     let mut next = mark;
     for i in 0..N {
