@@ -2,7 +2,7 @@
 // Numbers are cells, as in the tables: 64 bits, two's complement.
 #![tactic(auto)]
 
-use primitives::Span;
+use primitives::{Read, Span};
 
 mod naming;
 mod naming_written;
@@ -22,3 +22,6 @@ pub struct RequestBody {
     pub version: Text,
     pub tags: u64,
 }
+
+// The own row of a request and the bytes used.
+pub type RequestReply = Read<RequestBody>;

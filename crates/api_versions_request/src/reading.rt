@@ -7,10 +7,10 @@ ghost use Rattle.body_reading.specs.Walk.{on, walk};
 ghost use Rattle.api_versions_request.specs.Answers.{of_request_reply};
 ghost use Rattle.api_versions_request.specs.Walks.{of_request_walked};
 
-use crate::RequestBody;
+use crate::{RequestBody, RequestReply};
 use body_reading::places::compact_string_at;
 use body_reading::walks::admit;
-use primitives::{MINUS_ONE, Read, Refusal, Taken, no_room};
+use primitives::{MINUS_ONE, Refusal, Taken, no_room};
 use tagged_fields::reading::tag_buffer_at;
 
 // The fields, the place after them, and the mark of the tags' table.
@@ -59,7 +59,7 @@ fn body(msg: &[u8], version: u64, table: &mut [u64]) -> Result<RequestWalked, Re
 }
 
 // The request at the front of a message. Its tags' rows go to the table from its start on, three cells each; after a refusal the table is as it was.
-pub fn read(msg: &[u8], version: i64, tags: &mut [u64]) -> Read<RequestBody>
+pub fn read(msg: &[u8], version: i64, tags: &mut [u64]) -> RequestReply
     ensures { (of_request_reply result, tags.new ∷ []) ≡ prefix_read Api.request version (tags.old ∷ []) msg.now }
 {
     let v = admit(version, 3, msg.len())?;

@@ -49,7 +49,8 @@ pub(crate) fn is_bare(s: &[u8], p: usize, flexible: bool) -> bool
     ensures { IsBare flexible s.now p result }
 {
     if flexible && p < less(s.len(), 6) {
-        return s[p + 6] == 0;
+        let rest = &s[p..];
+        return rest[6] == 0;
     }
     false
 }

@@ -2,6 +2,8 @@
 // Numbers are cells, as in the tables: 64 bits, two's complement.
 #![tactic(auto)]
 
+use primitives::Read;
+
 mod items;
 mod judge;
 mod naming;
@@ -20,3 +22,6 @@ pub struct ResponseBody {
     pub throttle: Option<u64>,
     pub tags: u64,
 }
+
+// The own row of a response and the bytes used.
+pub type ResponseReply = Read<ResponseBody>;

@@ -8,12 +8,12 @@ ghost use Rattle.api_versions_response.specs.Answers.{of_response_reply};
 ghost use Rattle.api_versions_response.specs.Shapes.{body_shape, tail_shape};
 ghost use Rattle.api_versions_response.specs.Walks.{behind_items, is_left, of_measured, of_tail};
 
-use crate::ResponseBody;
 use crate::items::items_in;
+use crate::{ResponseBody, ResponseReply};
 use body_reading::places::{int16_at, items_at};
 use body_reading::versioned::int32_if;
 use body_reading::walks::admit;
-use primitives::{BYTES_LEFT, Read, Refusal, Taken, at, no_room};
+use primitives::{BYTES_LEFT, Refusal, Taken, at, no_room};
 use tagged_fields::reading::tags_if;
 
 // What stands after the items, the place after it, and the mark of the tags' table.
@@ -94,13 +94,7 @@ fn is_left(whole: bool, next: usize, size: usize) -> bool
 }
 
 // Once version and size are judged: over no room the walk measures; then what is left, then room in table order; then it fills.
-fn judged(
-    msg: &[u8],
-    v: u64,
-    whole: bool,
-    items: &mut [u64],
-    tags: &mut [u64],
-) -> Read<ResponseBody>
+fn judged(msg: &[u8], v: u64, whole: bool, items: &mut [u64], tags: &mut [u64]) -> ResponseReply
     requires { (v ≤ 3) × (length msg.now ≤ 1048576) }
     ensures { (of_response_reply result, items.new ∷ tags.new ∷ []) ≡ read_answer whole Api.response (pos v) (items.old ∷ tags.old ∷ []) msg.now }
 {
@@ -128,7 +122,7 @@ fn answered(
     whole: bool,
     items: &mut [u64],
     tags: &mut [u64],
-) -> Read<ResponseBody>
+) -> ResponseReply
     ensures { (of_response_reply result, items.new ∷ tags.new ∷ []) ≡ read_answer whole Api.response version (items.old ∷ tags.old ∷ []) msg.now }
 {
     let v = admit(version, 3, msg.len())?;
@@ -138,26 +132,21 @@ fn answered(
 // ---- the calls: each leaves the tables as they were where it refuses, and what is after the rows filled where it does not
 
 // A prefix read, as the Rust reads: null items are none, and bytes may be left over.
-pub fn read(msg: &[u8], version: i64, items: &mut [u64], tags: &mut [u64]) -> Read<ResponseBody>
+pub fn read(msg: &[u8], version: i64, items: &mut [u64], tags: &mut [u64]) -> ResponseReply
     ensures { (of_response_reply result, items.new ∷ tags.new ∷ []) ≡ prefix_read Api.response version (items.old ∷ tags.old ∷ []) msg.now }
 {
     answered(msg, version, false, items, tags)
 }
 
 // A whole read: the body of one layout is a body of no other.
-pub fn read_whole(
-    msg: &[u8],
-    version: i64,
-    items: &mut [u64],
-    tags: &mut [u64],
-) -> Read<ResponseBody>
+pub fn read_whole(msg: &[u8], version: i64, items: &mut [u64], tags: &mut [u64]) -> ResponseReply
     ensures { (of_response_reply result, items.new ∷ tags.new ∷ []) ≡ whole_read Api.response version (items.old ∷ tags.old ∷ []) msg.now }
 {
     answered(msg, version, true, items, tags)
 }
 
 // The body that answers a request sent at version `sent` is read whole at that version.
-pub fn read_answer(msg: &[u8], sent: i64, items: &mut [u64], tags: &mut [u64]) -> Read<ResponseBody>
+pub fn read_answer(msg: &[u8], sent: i64, items: &mut [u64], tags: &mut [u64]) -> ResponseReply
     ensures { (of_response_reply result, items.new ∷ tags.new ∷ []) ≡ whole_read Api.response sent (items.old ∷ tags.old ∷ []) msg.now }
 {
     read_whole(msg, sent, items, tags)
